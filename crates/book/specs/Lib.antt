@@ -1,0 +1,6 @@
+pub mod Lines
+pub mod Reading
+pub mod Records
+pub mod Tabs
+pub mod Weeks
+pub mod Words
