@@ -3,21 +3,10 @@ use Prim.Native.Nat.{ℕ}
 use mathlib.Core.List.{List, [], _∷_, _++_, map, append-assoc, append-nil}
 use mathlib.Core.Path.{_≡_, refl, sym, ap, _∙_}
 use Rattle.std.specs.Iters.{folded}
+use Rattle.book.specs.Joining.{no-week, with-line}
 use Rattle.book.specs.Lines.{Deed, Change, Line}
 use Rattle.book.specs.Lines.Line.{fact, act, start, goal, step, edit}
 use Rattle.book.specs.Weeks.{Week, said}
-
--- a week with one line more
-abbrev pub with-line : Week → Line → Week
-with-line w (fact x) = record { facts = w .facts ++ x ∷ []; deeds = w .deeds; starts = w .starts; goals = w .goals; steps = w .steps; changes = w .changes }
-with-line w (act d) = record { facts = w .facts; deeds = w .deeds ++ d ∷ []; starts = w .starts; goals = w .goals; steps = w .steps; changes = w .changes }
-with-line w (start s) = record { facts = w .facts; deeds = w .deeds; starts = s; goals = w .goals; steps = w .steps; changes = w .changes }
-with-line w (goal s) = record { facts = w .facts; deeds = w .deeds; starts = w .starts; goals = s; steps = w .steps; changes = w .changes }
-with-line w (step a) = record { facts = w .facts; deeds = w .deeds; starts = w .starts; goals = w .goals; steps = w .steps ++ a ∷ []; changes = w .changes }
-with-line w (edit c) = record { facts = w .facts; deeds = w .deeds; starts = w .starts; goals = w .goals; steps = w .steps; changes = w .changes ++ c ∷ [] }
-
-abbrev pub no-week : Week
-no-week = record { facts = []; deeds = []; starts = []; goals = []; steps = []; changes = [] }
 
 abbrev pub gathered : List Line → Week
 gathered ls = folded with-line no-week ls

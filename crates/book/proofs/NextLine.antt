@@ -9,14 +9,13 @@ use native.Mathlib.Omega.{arith}
 use Rattle.std.proofs.shelf.Lists.{drop-drop, drop-at}
 use Rattle.std.proofs.shelf.Tests.{eqb-false}
 use Rattle.text.specs.Fields.{Lacks, Cut}
-use Rattle.text.proofs.Cuts.{same-cut}
+use Rattle.text.proofs.Cuts.{same-cut, no-cut}
 use Rattle.book.specs.Lines.{Line, Proper, text}
 use Rattle.book.specs.Reading.{NoLine}
-use Rattle.book.proofs.FirstField.{lacks-none}
 use Rattle.book.proofs.Spelling.{text-lacks}
 
 pub no-end : (bs : List ℕ) → Lacks 10 bs → NoLine bs
-no-end bs lacks l more p e = lacks-none 10 (text l) more (rw e at lacks)
+no-end bs lacks l more p e = no-cut 10 (text l) more (rw e at lacks)
 
 pub no-record : (bs line rest : List ℕ) → Cut 10 bs line rest → ((l : Line) → Proper l → line ≡ text l → ⊥) → NoLine bs
 no-record bs line rest cut none l more p e = none l p (same-cut 10 line (text l) rest more (cut .1) (text-lacks l p) (sym (cut .0) ∙ e) .0)

@@ -12,12 +12,13 @@ use Rattle.std.proofs.shelf.Elements.{all-append, all-weaker}
 use Rattle.std.specs.Written.{decimal}
 use Rattle.text.specs.Fields.{Lacks, Small, commas}
 use Rattle.text.proofs.Lists.{list-lacks}
+use Rattle.text.proofs.Numerals.{name-lacks}
 use Rattle.book.specs.Lines.{Line, Proper, word, fields, text}
 use Rattle.book.specs.Lines.Change.{swap, group, ungroup, loosen, replace}
 use Rattle.book.specs.Lines.Line.{fact, act, start, goal, step, edit}
 use Rattle.book.specs.Tabs.{_·_}
 use Rattle.book.specs.Words.{spelled}
-use Rattle.book.proofs.FirstField.{name-lacks, number-lacks}
+use Rattle.book.proofs.FirstField.{number-lacks}
 use Rattle.book.specs.declared.word.Word.{Word}
 use Rattle.book.specs.declared.word.Word.the-variants.{Fact, Act, Start, Goal, Step, Swap, Group, Ungroup, Loosen, Replace}
 
@@ -71,9 +72,9 @@ pair-line : (a b : ℕ) → Small a → Small b → Lacks 10 (decimal a · decim
 pair-line a b s t = tabbed-lacks (decimal a) (decimal b) (number-line a s) (number-line b t)
 
 fields-lack : (l : Line) → Proper l → Lacks 10 (fields l)
-fields-lack (fact name) p = name-lacks 10 name (omega arith) p
+fields-lack (fact name) p = name-lacks 10 name (λ p. omega arith) p
 fields-lack (act d) p =
-    tabbed-lacks (d .name) _ (name-lacks 10 (d .name) (omega arith) (p .name))
+    tabbed-lacks (d .name) _ (name-lacks 10 (d .name) (λ p. omega arith) (p .name))
     (tabbed-lacks (decimal (d .price)) _ (number-line (d .price) (p .price))
     (tabbed-lacks (commas (d .needs)) _ (list-line (d .needs) (p .needs .0))
     (tabbed-lacks (commas (d .adds)) _ (list-line (d .adds) (p .adds .0)) (list-line (d .deletes) (p .deletes .0)))))

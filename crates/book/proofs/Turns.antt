@@ -10,33 +10,16 @@ use Rattle.std.specs.shelf.Lists.{All}
 use Rattle.std.proofs.shelf.Elements.{all-append}
 use Rattle.std.proofs.shelf.Lists.{length-push}
 use Rattle.std.proofs.shelf.Tests.{cases-lt, cases-eq}
+use Rattle.book.specs.Joining.{stage, May, no-week, with-line}
 use Rattle.book.specs.Lines.{Deed, Change, Line, Proper, IsFactSet}
 use Rattle.book.specs.Lines.Line.{fact, act, start, goal, step, edit}
 use Rattle.book.specs.Weeks.{Week, said, Known, DeedFits, ChangeFits, Fits, Whole, Begins}
-use Rattle.book.proofs.Gathers.{with-line, no-week, gathered, with-facts, with-acts}
-
--- the stage that a line leads to: 0 facts, 1 acts, 2 the start, 3 the goal and the steps, 4 the edits
-abbrev pub stage : Line → ℕ
-stage (fact x) = 0
-stage (act d) = 1
-stage (start set) = 2
-stage (goal set) = 3
-stage (step a) = 3
-stage (edit c) = 4
+use Rattle.book.proofs.Gathers.{gathered, with-facts, with-acts}
 
 -- where the lines lead
 abbrev pub stage-after : ℕ → List Line → ℕ
 stage-after s [] = s
 stage-after s (l ∷ ls) = stage-after (stage l) ls
-
--- at a stage, with the week w so far, this line may follow
-abbrev pub May : ℕ → Week → Line → Type 0
-May s w (fact x) = (s ≤ 0) × (length (w .facts) < 64)
-May s w (act d) = (s ≤ 1) × (length (w .deeds) < 128) × DeedFits (length (w .facts)) d
-May s w (start set) = (s ≤ 1) × Known (length (w .facts)) set
-May s w (goal set) = (s ≡ 2) × Known (length (w .facts)) set
-May s w (step a) = (s ≡ 3) × (length (w .steps) < 128) × (a < length (w .deeds))
-May s w (edit c) = (3 ≤ s) × ChangeFits c
 
 -- each line may follow those before it
 abbrev pub Follow : ℕ → Week → List Line → Type 0
@@ -203,7 +186,7 @@ follow-parts : (s : ℕ) (w : Week) (xs ys : List Line) → Follow s w (xs ++ ys
 follow-parts s w [] ys f = (tt, f)
 follow-parts s w (x ∷ xs) ys f = let r = follow-parts (stage x) (with-line w x) xs ys (f .1) in ((f .0, r .0), r .1)
 
-all-parts : {X : Type 0} (P : X → Type 0) (xs ys : List X) → All P (xs ++ ys) → All P xs × All P ys
+pub all-parts : {X : Type 0} (P : X → Type 0) (xs ys : List X) → All P (xs ++ ys) → All P xs × All P ys
 all-parts P [] ys a = (tt, a)
 all-parts P (x ∷ xs) ys a = let r = all-parts P xs ys (a .1) in ((a .0, r .0), r .1)
 

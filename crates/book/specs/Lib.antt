@@ -1,6 +1,9 @@
+pub mod Joining
 pub mod Lines
 pub mod Reading
 pub mod Records
+pub mod Stages
 pub mod Tabs
+pub mod Tasks
 pub mod Weeks
 pub mod Words

@@ -22,3 +22,18 @@ pub impl From<FieldFault> for RecordFault as RecordFromField {
         RecordFault::Field(e)
     }
 }
+
+// Why a record may not stand where it does.
+#[derive(Clone, Copy, Debug, PartialEq)]
+pub enum TurnFault {
+    // the records come in another sequence
+    Sequence,
+    // a 65th fact, or a 129th act, step or list entry
+    Full,
+    // a price over 1,000,000
+    Price,
+    // a set or a step names what the book lacks
+    Unknown,
+    // the text ends before its goal line
+    End,
+}

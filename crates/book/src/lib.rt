@@ -1,7 +1,10 @@
 // The book: its lines, its reader, and the loading of a task and a plan.
+mod entries;
 pub mod fault;
 mod fields;
 mod line;
+mod loader;
 pub mod reader;
 pub mod record;
+mod stage;
 pub mod word;

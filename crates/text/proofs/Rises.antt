@@ -50,3 +50,6 @@ some-more rising e e′ low n reads fits = (
   λ s. let next = reads .lists (s .0) .0 (s .1) in (next .0, next .2, λ must. (rw (next .1) at (s .2 must)) .1),
   λ s. (n ∷ s .0, reads .lists (n ∷ s .0) .1 (s .0, refl, s .1), λ must. (fits must, s .2 must)),
 )
+
+pub some-fits : (rising : Bool) (e e′ : Entries) (low n : ℕ) → Reads (Left e) (n ∷ []) e′ → SomeLeft rising e low → rising ≡ true → low ≤ n
+some-fits rising e e′ low n reads s must = (rw (reads .lists (s .0) .0 (s .1) .1) at (s .2 must)) .0

@@ -1,7 +1,8 @@
 use mathlib.Core.Path.{refl, sym}
 use native.Mathlib.Omega.{arith}
 use Rattle.std.proofs.shelf.Results.{err-from-errBy}
-use Rattle.book.proofs.FirstField.{no-field, same-field, name-lacks}
+use Rattle.text.proofs.Numerals.{name-lacks}
+use Rattle.book.proofs.FirstField.{no-field, same-field}
 use Rattle.book.proofs.fields.name_field.Needs as need
 
 pub returns-in-rest : need.returns-in-rest
@@ -11,4 +12,4 @@ pub returns-in-Break-name : need.returns-in-Break-name
 returns-in-Break-name c =
     let p = err-from-errBy (c .from-residual .result) (c .from-residual .ensures .1) in
     let no = c .in-Break-name .ensures tt in
-    rw (p .1, p .2) (no .0, λ q h. no .1 (q .0) (sym (same-field _ _ _ (q .0) (q .1) (c .in-Some .ensures tt) (name-lacks 9 (q .0) (omega arith) (h .0)) (h .1) .0), h .0))
+    rw (p .1, p .2) (no .0, λ q h. no .1 (q .0) (sym (same-field _ _ _ (q .0) (q .1) (c .in-Some .ensures tt) (name-lacks 9 (q .0) (λ p. omega arith) (h .0)) (h .1) .0), h .0))
