@@ -2,6 +2,8 @@ pub mod Described
 pub mod FirstField
 pub mod Gathers
 pub mod NextLine
+pub mod Placed
+pub mod Progress
 pub mod ReadSoFar
 pub mod Spelling
 pub mod Turns

@@ -174,7 +174,7 @@ sound-from-whole ls (w, fits, e) =
 abbrev pub MayFollow : List Line → Line → Type 0
 MayFollow ls l = May (stage-after 0 ls) (gathered ls) l
 
-stage-append : (s : ℕ) (xs ys : List Line) → stage-after s (xs ++ ys) ≡ stage-after (stage-after s xs) ys
+pub stage-append : (s : ℕ) (xs ys : List Line) → stage-after s (xs ++ ys) ≡ stage-after (stage-after s xs) ys
 stage-append s [] ys = refl
 stage-append s (x ∷ xs) ys = stage-append (stage x) xs ys
 

@@ -1,5 +1,7 @@
+pub mod Faults
 pub mod Joining
 pub mod Lines
+pub mod Loading
 pub mod Reading
 pub mod Records
 pub mod Stages

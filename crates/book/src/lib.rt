@@ -3,6 +3,7 @@ mod entries;
 pub mod fault;
 mod fields;
 mod line;
+pub mod load;
 mod loader;
 pub mod reader;
 pub mod record;

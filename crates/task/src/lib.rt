@@ -15,3 +15,5 @@ pub use tariffs::price_of_list;
 pub use tasks::Plan;
 pub use tasks::Task;
 
+#[cfg(test)]
+mod tests;

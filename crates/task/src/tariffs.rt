@@ -11,6 +11,8 @@ use crate::actions::Action;
 use crate::actions::Facts;
 use crate::tasks::Task;
 
+const LONGEST_LIST: usize = 128;
+
 // A price for each action, by its number.
 pub trait Tariff {
     // No price of this kind of tariff is higher.
@@ -94,14 +96,14 @@ pub impl<'a> Tariff for TouchTariff<'a> as TouchPrices {
 pub struct TooLong;
 
 impl TooLong {
+    const NUMBER: u32 = 4;
+
     pub fn number(&self) -> u32
         ensures { λ r. ⌜ r ≡ 4 ⌝ }
     {
-        4
+        Self::NUMBER
     }
 }
-
-const LONGEST_LIST: usize = 128;
 
 // The sum of the prices of the list's entries, each as often as it stands there.
 pub fn price_of_list<T: Tariff>(tariff: &T, list: &[u32]) -> Result<u32, TooLong>

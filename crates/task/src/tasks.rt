@@ -32,7 +32,8 @@ impl Task {
     pub fn new() -> Self
         ensures facts { λ r. ⌜ r .facts ≡ 0 ⌝ }
         ensures actions { λ r. ⌜ contents (r .actions) ≡ [] ⌝ }
-        ensures sets { λ r. ⌜ ((f : ℕ) → (member (r .start .words) f ≡ false) × (member (r .goal .words) f ≡ false)) ⌝ }
+        ensures start { λ r. ⌜ ((f : ℕ) → member (r .start .words) f ≡ false) ⌝ }
+        ensures goal { λ r. ⌜ ((f : ℕ) → member (r .goal .words) f ≡ false) ⌝ }
     {
         let none = Facts::empty();
         let idle = Action {
@@ -61,7 +62,9 @@ impl Task {
         ensures facts { λ r. ⌜ When r
             ((now (self .entry) .facts < 64) × (now (self .exit) .facts ≡ now (self .entry) .facts + 1))
             ((now (self .entry) .facts ≡ 64) × (now (self .exit) .facts ≡ 64)) ⌝ }
-        ensures others { λ _. ⌜ now (self .exit) .actions ≡ now (self .entry) .actions ⌝ ∗ ⌜ now (self .exit) .start ≡ now (self .entry) .start ⌝ ∗ ⌜ now (self .exit) .goal ≡ now (self .entry) .goal ⌝ }
+        ensures actions { λ _. ⌜ now (self .exit) .actions ≡ now (self .entry) .actions ⌝ }
+        ensures start { λ _. ⌜ now (self .exit) .start ≡ now (self .entry) .start ⌝ }
+        ensures goal { λ _. ⌜ now (self .exit) .goal ≡ now (self .entry) .goal ⌝ }
     {
         let has_room = self.facts < Self::MOST_FACTS;
         if has_room {
@@ -75,7 +78,9 @@ impl Task {
         ensures actions { λ r. ⌜ When r
             ((length (contents (now (self .entry) .actions)) < 128) × (contents (now (self .exit) .actions) ≡ contents (now (self .entry) .actions) ++ action ∷ []))
             ((length (contents (now (self .entry) .actions)) ≡ 128) × (now (self .exit) .actions ≡ now (self .entry) .actions)) ⌝ }
-        ensures others { λ _. ⌜ now (self .exit) .facts ≡ now (self .entry) .facts ⌝ ∗ ⌜ now (self .exit) .start ≡ now (self .entry) .start ⌝ ∗ ⌜ now (self .exit) .goal ≡ now (self .entry) .goal ⌝ }
+        ensures facts { λ _. ⌜ now (self .exit) .facts ≡ now (self .entry) .facts ⌝ }
+        ensures start { λ _. ⌜ now (self .exit) .start ≡ now (self .entry) .start ⌝ }
+        ensures goal { λ _. ⌜ now (self .exit) .goal ≡ now (self .entry) .goal ⌝ }
     {
         self.actions.push(action).is_ok()
     }

@@ -1,4 +1,4 @@
-use Prim.Native.Nat.{_≤_, _*_}
+use Prim.Native.Nat.{_≤_}
 use borrow.Author.Needs.{needs}
 use lib.ListN.{getD}
 use native.Mathlib.Nat.{add-mul, mul-le-mul}

@@ -6,5 +6,5 @@ pub returns : need.returns
 returns c name w (t, p) =
     let e = c .if-not-add-fact .ensures tt in
     ((omega arith, omega (arith, e .facts)),
-    (record { facts = omega (arith, e .facts, length-push (w .facts) name); actions = rw (e .others .0) (t .actions); start = rw (e .others .1 .0) (t .start); goal = rw (e .others .1 .1) (t .goal) }, p),
+    (record { facts = omega (arith, e .facts, length-push (w .facts) name); actions = rw (e .actions) (t .actions); start = rw (e .start) (t .start); goal = rw (e .goal) (t .goal) }, p),
     omega arith)
