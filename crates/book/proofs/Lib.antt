@@ -5,5 +5,7 @@ pub mod NextLine
 pub mod Placed
 pub mod Progress
 pub mod ReadSoFar
+pub mod RoundTrip
+pub mod SameText
 pub mod Spelling
 pub mod Turns
