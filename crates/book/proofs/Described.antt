@@ -4,7 +4,7 @@ use mathlib.Core.List.{List, [], _∷_, _++_}
 use mathlib.Core.Path.{_≡_, refl, ap}
 use lib.ListN.{length}
 use Rattle.task.specs.declared.actions.Action.{Action}
-use Rattle.book.specs.Lines.{Deed}
+use Rattle.records.specs.Lines.{Deed}
 use Rattle.book.specs.Tasks.{Describes, DescribeAll}
 
 pub described-length : (ds : List Deed) (actions : List Action) → DescribeAll ds actions → length ds ≡ length actions

@@ -3,10 +3,10 @@ use Prim.Native.Nat.{ℕ}
 use mathlib.Core.List.{List, [], _∷_, _++_, map, append-assoc, append-nil}
 use mathlib.Core.Path.{_≡_, refl, sym, ap, _∙_}
 use Rattle.std.specs.Iters.{folded}
-use Rattle.book.specs.Joining.{no-week, with-line}
-use Rattle.book.specs.Lines.{Deed, Change, Line}
-use Rattle.book.specs.Lines.Line.{fact, act, start, goal, step, edit}
-use Rattle.book.specs.Weeks.{Week, said}
+use Rattle.book.specs.Joining.{with-line}
+use Rattle.records.specs.Lines.{Deed, Change, Line}
+use Rattle.records.specs.Lines.Line.{fact, act, start, goal, step, edit}
+use Rattle.book.specs.Weeks.{Week, no-week, said}
 
 abbrev pub gathered : List Line → Week
 gathered ls = folded with-line no-week ls

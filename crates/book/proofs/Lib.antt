@@ -1,11 +1,7 @@
 pub mod Described
-pub mod FirstField
 pub mod Gathers
-pub mod NextLine
 pub mod Placed
 pub mod Progress
 pub mod ReadSoFar
 pub mod RoundTrip
-pub mod SameText
-pub mod Spelling
 pub mod Turns

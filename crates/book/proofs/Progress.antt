@@ -10,18 +10,18 @@ use Rattle.std.specs.declared.result.Result.the-variants.{Ok, Err}
 use Rattle.std.specs.Iters.{folded}
 use Rattle.std.proofs.shelf.Lists.{length-push}
 use Rattle.std.proofs.shelf.Sums.{folded-push}
-use Rattle.book.specs.Joining.{Holds, Joins, May, no-week, stage, with-line}
-use Rattle.book.specs.Lines.{Line, Proper, text}
+use Rattle.book.specs.Joining.{Holds, Joins, with-line}
+use Rattle.records.specs.Lines.{Line, Proper, text}
 use Rattle.book.specs.Loading.{Accepted, FirstBad, NoForm, OutOfTurn, Short, Unfinished}
-use Rattle.book.specs.Reading.{Next, unread}
-use Rattle.book.specs.Records.{Says}
+use Rattle.records.specs.Reading.{Next, unread}
+use Rattle.records.specs.Records.{Says}
 use Rattle.book.specs.Stages.{rank-of}
-use Rattle.book.specs.Weeks.{Whole, bytes, said}
-use Rattle.book.specs.declared.fault.RecordFault.{RecordFault}
+use Rattle.book.specs.Weeks.{bytes, no-week}
+use Rattle.records.specs.declared.fault.RecordFault.{RecordFault}
 use Rattle.book.specs.declared.fault.TurnFault.{TurnFault}
 use Rattle.book.specs.declared.loader.Loader.{Loader}
-use Rattle.book.specs.declared.reader.Reader.{Reader}
-use Rattle.book.specs.declared.record.Record.{Record}
+use Rattle.records.specs.declared.reader.Reader.{Reader}
+use Rattle.records.specs.declared.record.Record.{Record}
 use Rattle.book.proofs.Gathers.{gathered, gathered-said}
 use Rattle.book.proofs.Turns.{Sound, may-follow, sound-begins, sound-push, stage-after, stage-append, whole-ends, whole-from-sound}
 

@@ -10,14 +10,27 @@ use Rattle.std.specs.declared.result.Result.{Result}
 use Rattle.std.specs.declared.result.Result.the-variants.{Ok, Err}
 use Rattle.sets.specs.declared.list.ArrayVec.{ArrayVec}
 use Rattle.task.specs.declared.tasks.Task.{Task}
-use Rattle.book.specs.Lines.{Line, Proper, text}
+use Rattle.records.specs.Lines.{Line, Proper, text}
 use Rattle.book.specs.Loading.{FirstBad, Loaded, Loads, NoForm, OutOfTurn, Refused, RoundTrip, Short, Unfinished}
 use Rattle.book.specs.Weeks.{Fits, Week, bytes, said}
 use Rattle.book.specs.declared.fault.LoadFault.{LoadFault}
 use Rattle.book.specs.declared.fault.LoadFault.the-variants.{TooLong, Form, Turn}
 use Rattle.book.proofs.Gathers.{same-week}
-use Rattle.book.proofs.SameText.{same-front}
+use Rattle.text.proofs.Cuts.{same-cut}
+use Rattle.records.proofs.SameText.{same-line}
+use Rattle.records.proofs.Spelling.{text-lacks}
 use Rattle.book.proofs.Turns.{all-parts, begins-sound}
+
+-- what begins with the text of lines has these lines at its front
+same-front : (front ls : List Line) (rest : List ℕ) → All Proper front → All Proper ls → bytes front ++ rest ≡ bytes ls → (more : List Line) × (ls ≡ front ++ more) × (rest ≡ bytes more)
+same-front [] ls rest p q e = (ls, refl, e)
+same-front (f ∷ front) [] rest p q e =
+    absurd (omega (arith, ap length e, length-append (text f ++ 10 ∷ bytes front) rest, length-append (text f) (10 ∷ bytes front)))
+same-front (f ∷ front) (l ∷ ls) rest p q e =
+    let split = same-cut 10 (text f) (text l) (bytes front ++ rest) (bytes ls) (text-lacks f (p .0)) (text-lacks l (q .0)) (sym (append-assoc (text f) (10 ∷ bytes front) rest) ∙ e) in
+    let first = same-line f l (p .0) (q .0) (split .0) in
+    let r = same-front front ls rest (p .1) (q .1) (split .1) in
+    (r .0, ap (λ t. l ∷ t) (r .1) ∙ ap (λ x. x ∷ (front ++ r .0)) (sym first), r .2)
 
 -- no bytes are no lines
 none : (more : List Line) → [] ≡ bytes more → more ≡ []

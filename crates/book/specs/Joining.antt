@@ -6,8 +6,8 @@ use lib.ListN.{length}
 use Rattle.std.specs.Results.{Cases}
 use Rattle.std.specs.declared.result.Result.{Result}
 use Rattle.sets.specs.Contents.{contents}
-use Rattle.book.specs.Lines.{Line}
-use Rattle.book.specs.Lines.Line.{fact, act, start, goal, step, edit}
+use Rattle.records.specs.Lines.{Line}
+use Rattle.records.specs.Lines.Line.{fact, act, start, goal, step, edit}
 use Rattle.book.specs.Stages.{rank-of}
 use Rattle.book.specs.Tasks.{TaskOf}
 use Rattle.book.specs.Weeks.{Week, Known, DeedFits, ChangeFits}
@@ -40,10 +40,6 @@ May s w (start set) = (s ≤ 1) × Known (length (w .facts)) set
 May s w (goal set) = (s ≡ 2) × Known (length (w .facts)) set
 May s w (step a) = (s ≡ 3) × (length (w .steps) < 128) × (a < length (w .deeds))
 May s w (edit c) = (3 ≤ s) × ChangeFits c
-
--- before the first line
-abbrev pub no-week : Week
-no-week = record { facts = []; deeds = []; starts = []; goals = []; steps = []; changes = [] }
 
 -- the loader has the task and the plan of the week
 abbrev pub Holds : Week → Loader → Type 0

@@ -1,11 +1,6 @@
 pub mod Faults
 pub mod Joining
-pub mod Lines
 pub mod Loading
-pub mod Reading
-pub mod Records
 pub mod Stages
-pub mod Tabs
 pub mod Tasks
 pub mod Weeks
-pub mod Words

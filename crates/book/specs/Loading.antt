@@ -10,11 +10,10 @@ use Rattle.std.specs.declared.result.Result.the-variants.{Ok, Err}
 use Rattle.sets.specs.Contents.{contents}
 use Rattle.sets.specs.declared.list.ArrayVec.{ArrayVec}
 use Rattle.task.specs.declared.tasks.Task.{Task}
-use Rattle.book.specs.Joining.{no-week}
-use Rattle.book.specs.Lines.{Line, Proper, text}
-use Rattle.book.specs.Reading.{NoLine}
+use Rattle.records.specs.Lines.{Line, Proper, text}
+use Rattle.records.specs.Reading.{NoLine}
 use Rattle.book.specs.Tasks.{TaskOf}
-use Rattle.book.specs.Weeks.{Week, Fits, Whole, Begins, said, bytes}
+use Rattle.book.specs.Weeks.{Week, Fits, Whole, Begins, bytes, no-week, said}
 use Rattle.book.specs.declared.fault.LoadFault.{LoadFault}
 use Rattle.book.specs.declared.fault.LoadFault.the-variants.{TooLong, Form, Turn}
 

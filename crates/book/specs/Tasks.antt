@@ -10,7 +10,7 @@ use Rattle.sets.specs.Member.{member}
 use Rattle.sets.specs.declared.bits.BitSet.{BitSet}
 use Rattle.task.specs.declared.actions.Action.{Action}
 use Rattle.task.specs.declared.tasks.Task.{Task}
-use Rattle.book.specs.Lines.{Deed}
+use Rattle.records.specs.Lines.{Deed}
 use Rattle.book.specs.Weeks.{Week}
 
 -- whether f is one of the numbers

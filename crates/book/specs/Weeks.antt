@@ -4,9 +4,9 @@ use mathlib.Core.List.{List, [], _∷_, _++_, map}
 use mathlib.Core.Path.{_≡_}
 use lib.ListN.{length}
 use Rattle.std.specs.shelf.Lists.{All}
-use Rattle.book.specs.Lines.{Deed, Change, Line, Proper, text}
-use Rattle.book.specs.Lines.Change.{swap, group, ungroup, loosen, replace}
-use Rattle.book.specs.Lines.Line.{fact, act, start, goal, step, edit}
+use Rattle.records.specs.Lines.{Deed, Change, Line, Proper, text}
+use Rattle.records.specs.Lines.Change.{swap, group, ungroup, loosen, replace}
+use Rattle.records.specs.Lines.Line.{fact, act, start, goal, step, edit}
 
 -- what a book says: the names of its facts, its actions, start and goal, the plan, and the edits
 pub record Week : Type 0 where
@@ -16,6 +16,10 @@ pub record Week : Type 0 where
   pub goals : List ℕ
   pub steps : List ℕ
   pub changes : List Change
+
+-- the week of no lines
+abbrev pub no-week : Week
+no-week = record { facts = []; deeds = []; starts = []; goals = []; steps = []; changes = [] }
 
 -- its lines, in the one sequence that they come in
 abbrev pub said : Week → List Line

@@ -9,12 +9,14 @@ ghost use Rattle.text.specs.Fields.{IsList};
 ghost use Rattle.book.specs.Tasks.{Has};
 ghost use Rattle.book.specs.Weeks.{Known};
 use task::Facts;
+use task::Task;
 use text::Entries;
 
-// The set that the text writes, if it names no fact but the first `facts`.
-pub fn known_facts(text: &[u8], facts: usize) -> Option<Facts>
-    requires { ⌜ facts ≤ 64 ⌝ }
-    ensures { λ r. ⌜ ((set : List ℕ) → IsList (now (text .entry)) set → Cases r (Known facts set → ⊥) (λ s. Known facts set × Has s set)) ⌝ }
+// The set that the text writes, if it names only facts of the task.
+pub fn known_facts(text: &[u8], task: &Task) -> Option<Facts>
+    ensures { λ r. ⌜ ((set : List ℕ) → IsList (now (text .entry)) set → Cases r
+        (Known (now (task .entry) .facts) set → ⊥)
+        (λ s. Known (now (task .entry) .facts) set × Has s set)) ⌝ }
 {
     let mut set = Facts::empty();
     let mut entries = Entries::new(text);
@@ -23,7 +25,7 @@ pub fn known_facts(text: &[u8], facts: usize) -> Option<Facts>
             return Some(set);
         };
         let fact = n as usize;
-        if fact >= facts {
+        if fact >= task.facts {
             break;
         }
         set.insert(fact);

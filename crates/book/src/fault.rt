@@ -1,30 +1,10 @@
-// Why a book is refused: the fault of a field is held in that of its line, and that in the book's.
+// Why a book is refused: the fault of a line is held whole in the book's.
 ghost use mathlib.Core.Path.{_≡_};
 ghost use Rattle.book.specs.Faults.{at-line, line-of, number-of};
 ghost use Rattle.book.specs.declared.fault.LoadFault.the-variants.{Form, Turn};
-ghost use Rattle.book.specs.declared.fault.RecordFault.the-variants.{Field};
-use text::FieldFault;
-use text::fault::FieldFaultDebug;
-use text::fault::FieldFaultPartialEq;
-
-// Why a line is no record.
-#[derive(Clone, Copy, Debug, PartialEq)]
-pub enum RecordFault {
-    // the text ends before the line does
-    Unended,
-    // no record begins so
-    Word,
-    // a field behind the word is not of its form
-    Field(FieldFault),
-}
-
-pub impl From<FieldFault> for RecordFault as RecordFromField {
-    ghost converts = { λ e r. r ≡ Field e };
-
-    fn from(e: FieldFault) -> RecordFault {
-        RecordFault::Field(e)
-    }
-}
+use records::fault::RecordFault;
+use records::fault::RecordFaultDebug;
+use records::fault::RecordFaultPartialEq;
 
 // Why a record may not stand where it does.
 #[derive(Clone, Copy, Debug, PartialEq)]

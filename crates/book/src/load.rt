@@ -10,7 +10,7 @@ use crate::fault::LoadFromTurn;
 use crate::fault::TurnFault;
 use crate::fault::placed;
 use crate::loader::Loader;
-use crate::reader::Reader;
+use records::reader::Reader;
 use task::Plan;
 use task::Task;
 

@@ -1,2 +1,2 @@
-mod Puts
-mod Texts
+pub mod Puts
+pub mod Texts

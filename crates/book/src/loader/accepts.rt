@@ -3,23 +3,23 @@ ghost use mathlib.Core.List.{List};
 ghost use mathlib.Core.Path.{_≡_};
 ghost use Prim.Native.Nat.{ℕ};
 ghost use Rattle.text.specs.Fields.{IsList};
-ghost use Rattle.book.specs.Joining.{Holds, Joins, no-week};
-ghost use Rattle.book.specs.Lines.{Change, Deed, Line, Proper, ProperChange, ProperDeed};
-ghost use Rattle.book.specs.Lines.Line.{fact as fact-line, act as act-line, start as start-line, goal as goal-line, step as step-line, edit as edit-line};
-ghost use Rattle.book.specs.Records.{ActSays, EditSays, Says};
+ghost use Rattle.book.specs.Joining.{Holds, Joins};
+ghost use Rattle.records.specs.Lines.{Change, Deed, Line, Proper, ProperChange, ProperDeed};
+ghost use Rattle.records.specs.Lines.Line.{fact as fact-line, act as act-line, start as start-line, goal as goal-line, step as step-line, edit as edit-line};
+ghost use Rattle.records.specs.Records.{ActSays, EditSays, Says};
 ghost use Rattle.book.specs.Stages.{rank-of};
 ghost use Rattle.book.specs.Tasks.{Describes, Has};
-ghost use Rattle.book.specs.Weeks.{DeedFits, Known};
+ghost use Rattle.book.specs.Weeks.{DeedFits, Known, no-week};
 ghost use Rattle.std.specs.Results.{Cases};
 
 use super::Loader;
 use crate::entries::is_short;
 use crate::entries::known_facts;
 use crate::fault::TurnFault;
-use crate::record::Act;
-use crate::record::Edit;
-use crate::record::Record;
-use crate::record::Side;
+use records::record::Act;
+use records::record::Edit;
+use records::record::Record;
+use records::record::Side;
 use crate::stage::Stage;
 use sets::list::ArrayVec;
 use task::Action;
@@ -98,7 +98,7 @@ impl Loader {
             (λ s. Known (now (self .entry) .task .facts) set × Has s set)
             (λ _. Known (now (self .entry) .task .facts) set → ⊥)) ⌝ }
     {
-        match known_facts(text, self.task.facts) {
+        match known_facts(text, &self.task) {
             Some(facts) => Ok(facts),
             None => Err(TurnFault::Unknown),
         }

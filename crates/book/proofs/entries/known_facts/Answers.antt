@@ -18,10 +18,10 @@ loop-next-again c =
     let next = rw (c .in-Some .is) at (c .in-Ok .ensures tt) in
     let i = c .loop-next .inv in
     let n = c .in-Some .n in
-    (i .0 ++ n ∷ [], reads-more (i .1) (next .2), all-append _ (i .0) (n ∷ []) (i .2) (c .if-fact-facts .left, tt), λ f. inserted _ _ (i .0) n f (omega arith) (i .3 f) (c .insert .ensures .members f))
+    (i .0 ++ n ∷ [], reads-more (i .1) (next .2), all-append _ (i .0) (n ∷ []) (i .2) (c .if-fact-task .left, tt), λ f. inserted _ _ (i .0) n f (omega arith) (i .3 f) (c .insert .ensures .members f))
 
-pub returns-then-fact-facts : need.returns-then-fact-facts
-returns-then-fact-facts c set is known =
+pub returns-then-fact-task : need.returns-then-fact-task
+returns-then-fact-task c set is known =
     let next = rw (c .in-Some .is) at (c .in-Ok .ensures tt) in
     let i = c .loop-next .inv in
     omega (arith, next-known _ _ _ _ _ (i .1) (next .2) _ set is known)

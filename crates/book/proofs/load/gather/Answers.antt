@@ -5,8 +5,8 @@ use lib.ListN.{length, length-append}
 use Rattle.std.specs.declared.option.Option.the-variants.{Some, None}
 use Rattle.std.specs.declared.result.Result.the-variants.{Ok, Err}
 use Rattle.std.proofs.shelf.Results.{err-from-errBy}
-use Rattle.book.specs.Lines.{text}
-use Rattle.book.specs.Reading.{Next, unread}
+use Rattle.records.specs.Lines.{text}
+use Rattle.records.specs.Reading.{Next, unread}
 use Rattle.book.proofs.Placed.{placed-ok, placed-err}
 use Rattle.book.proofs.Progress.{begin, no-form, unfinished, finished, out-of-turn, in-turn}
 use Rattle.book.proofs.load.gather.Needs as need

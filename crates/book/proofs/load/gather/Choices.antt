@@ -1,6 +1,6 @@
 use Prim.Native.Nat.{_≤_}
 use lib.ListN.{length}
-use Rattle.book.specs.Reading.{unread}
+use Rattle.records.specs.Reading.{unread}
 use Rattle.book.proofs.Progress.{Progress}
 use Rattle.book.proofs.load.gather.Given as given
 

@@ -1,0 +1,4 @@
+pub mod FirstField
+pub mod NextLine
+pub mod SameText
+pub mod Spelling
