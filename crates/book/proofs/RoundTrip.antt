@@ -63,8 +63,8 @@ module _ (w : Week) (fits : Fits w) (book : List ℕ) (is : book ≡ bytes (said
       go : (more : List Line) → said w ≡ b .front ++ more → b .rest ≡ bytes more → ⊥
       go more s e = ⊎-elim
           (λ o.
-            let r = same-front (o .0 ∷ []) more (o .1) (o .2, tt) (rest-proper (b .front) more s) (append-assoc (text (o .0)) (10 ∷ []) (o .1) ∙ sym (o .3) ∙ e) in
-            o .4 (r .0, (w, fits, s ∙ ap (λ ls. b .front ++ ls) (r .1) ∙ sym (append-assoc (b .front) (o .0 ∷ []) (r .0)))))
+          let r = same-front (o .0 ∷ []) more (o .1) (o .2, tt) (rest-proper (b .front) more s) (append-assoc (text (o .0)) (10 ∷ []) (o .1) ∙ sym (o .3) ∙ e) in
+          o .4 (r .0, (w, fits, s ∙ ap (λ ls. b .front ++ ls) (r .1) ∙ sym (append-assoc (b .front) (o .0 ∷ []) (r .0)))))
           (λ u. u .1 (w, fits, s ∙ ap (λ ls. b .front ++ ls) (none more (sym (u .0) ∙ e)) ∙ append-nil (b .front)))
           (b .bad)
 

@@ -163,11 +163,11 @@ follow-facts w (x ∷ xs) rest few go =
 pub sound-from-whole : (ls : List Line) → Whole ls → Sound ls
 sound-from-whole ls (w, fits, e) =
     let behind : (v : Week) → v .deeds ≡ w .deeds → v .steps ≡ [] → Follow 3 v (map step (w .steps) ++ map edit (w .changes)) =
-        λ v p q. follow-steps v (w .steps) (w .changes) (rw q (omega arith)) (rw p (fits .step)) (fits .change) in
+    λ v p q. follow-steps v (w .steps) (w .changes) (rw q (omega arith)) (rw p (fits .step)) (fits .change) in
     let f : Follow 0 no-week (said w) =
-        follow-facts no-week (w .facts) _ (omega arith) (rw (with-facts no-week (w .facts))
-        (follow-acts 0 _ (w .deeds) _ (omega arith) (omega arith) (fits .deed) (λ t h. rw (with-acts _ (w .deeds))
-        ((h, fits .starts), ((refl, fits .goals), behind _ refl refl))))) in
+    follow-facts no-week (w .facts) _ (omega arith) (rw (with-facts no-week (w .facts))
+    (follow-acts 0 _ (w .deeds) _ (omega arith) (omega arith) (fits .deed) (λ t h. rw (with-acts _ (w .deeds))
+    ((h, fits .starts), ((refl, fits .goals), behind _ refl refl))))) in
     (rw e at f, rw e at (fits .forms))
 
 -- this line may follow those
@@ -197,7 +197,7 @@ sound-push ls l f p m = (follow-append 0 no-week ls (l ∷ []) (f .0) (m, tt), a
 pub sound-begins : (ls : List Line) → Sound ls → Begins ls
 sound-begins ls f =
     let go : (more : List Line) → Follow (stage-after 0 ls) (gathered ls) more → All Proper more → 3 ≤ stage-after (stage-after 0 ls) more → Begins ls =
-        λ more g p e. (more, whole-from-sound (ls ++ more) (follow-append 0 no-week ls more (f .0) g, all-append Proper ls more (f .1) p) (rw (stage-append 0 ls more) e)) in
+    λ more g p e. (more, whole-from-sound (ls ++ more) (follow-append 0 no-week ls more (f .0) g, all-append Proper ls more (f .1) p) (rw (stage-append 0 ls more) e)) in
     let empty : IsFactSet [] = (tt, λ _ k h. absurd (omega arith)) in
     ⊎-elim
     (λ low. go (start [] ∷ goal [] ∷ []) ((omega arith, tt), ((refl, tt), tt)) (empty, (empty, tt)) (omega arith))

@@ -2,7 +2,6 @@
 ghost use Rattle.std.specs.Results.{Cases};
 ghost use Rattle.book.specs.Loading.{Accepted, Loads, Refused, RoundTrip};
 ghost use mathlib.Core.Path.{_≡_};
-
 use crate::fault::At;
 use crate::fault::LoadFault;
 use crate::fault::LoadFromRecord;
@@ -35,7 +34,10 @@ fn gather(book: &[u8]) -> Result<Loader, LoadFault>
     }
     if loader.stage.rank() < 3 {
         let line = reader.line();
-        return Err(LoadFault::Turn(At { line, fault: TurnFault::End }));
+        return Err(LoadFault::Turn(At {
+            line,
+            fault: TurnFault::End,
+        }));
     }
     Ok(loader)
 }
@@ -44,7 +46,11 @@ fn store(loader: Loader, task: &mut Task, plan: &mut Plan)
     ensures task { λ _. ⌜ now (task .exit) ≡ loader .task ⌝ }
     ensures plan { λ _. ⌜ now (plan .exit) ≡ loader .plan ⌝ }
 {
-    let Loader { stage: _, task: loaded, plan: steps } = loader;
+    let Loader {
+        stage: _,
+        task: loaded,
+        plan: steps,
+    } = loader;
     *task = loaded;
     *plan = steps;
 }

@@ -34,7 +34,13 @@ fn act(bytes: &[u8]) -> Result<Act<'_>, FieldFault>
     let (needs, rest) = set_field(rest)?;
     let (adds, rest) = set_field(rest)?;
     let deletes = numbers(rest, true)?;
-    Ok(Act { name, price, needs, adds, deletes })
+    Ok(Act {
+        name,
+        price,
+        needs,
+        adds,
+        deletes,
+    })
 }
 
 fn pair(bytes: &[u8]) -> Result<(u32, u32), FieldFault>

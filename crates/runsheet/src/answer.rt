@@ -25,14 +25,23 @@ pub fn answer(book: &[u8], out: &mut [u8]) -> Result<Outcome, ShortBuffer>
     let mut task = Task::new();
     let mut plan = ArrayVec::new(0);
     if let Err(fault) = load(book, &mut task, &mut plan) {
-        let what = Reply::Bad { number: fault.number(), line: fault.line() };
+        let what = Reply::Bad {
+            number: fault.number(),
+            line: fault.line(),
+        };
         let len = reply(what, out)?;
-        return Ok(Outcome { accepted: false, len });
+        return Ok(Outcome {
+            accepted: false,
+            len,
+        });
     }
     let steps = plan.as_slice();
     let Ok(price) = price_of_list(&BookTariff { task: &task }, steps) else {
         unreachable()
     };
     let len = listing(price, steps, out)?;
-    Ok(Outcome { accepted: true, len })
+    Ok(Outcome {
+        accepted: true,
+        len,
+    })
 }

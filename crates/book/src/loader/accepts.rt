@@ -11,16 +11,15 @@ ghost use Rattle.book.specs.Stages.{rank-of};
 ghost use Rattle.book.specs.Tasks.{Describes, Has};
 ghost use Rattle.book.specs.Weeks.{DeedFits, Known, no-week};
 ghost use Rattle.std.specs.Results.{Cases};
-
 use super::Loader;
 use crate::entries::is_short;
 use crate::entries::known_facts;
 use crate::fault::TurnFault;
+use crate::stage::Stage;
 use records::record::Act;
 use records::record::Edit;
 use records::record::Record;
 use records::record::Side;
-use crate::stage::Stage;
 use sets::list::ArrayVec;
 use task::Action;
 use task::Facts;

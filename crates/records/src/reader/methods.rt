@@ -2,7 +2,6 @@
 ghost use Prim.Native.Nat.{_+_};
 ghost use mathlib.Core.Path.{_≡_};
 ghost use Rattle.records.specs.Reading.{unread, Next};
-
 use super::Reader;
 use crate::fault::RecordFault;
 use crate::line::read_record;
@@ -14,7 +13,11 @@ impl<'a> Reader<'a> {
         ensures text { λ r. ⌜ unread r ≡ now (book .entry) ⌝ }
         ensures line { λ r. ⌜ r .lines ≡ 0 ⌝ }
     {
-        Reader { book, cursor: 0, lines: 0 }
+        Reader {
+            book,
+            cursor: 0,
+            lines: 0,
+        }
     }
 
     // The number of the line that `next` reads, from 1.

@@ -11,5 +11,5 @@ returns-in-Ok c =
 pub returns-in-Err : need.returns-in-Err
 returns-in-Err c =
     let s : Loads (c .args .book .now) (Err (c .in-Err .fault)) (c .store-in-Err .last .task) (c .store-in-Err .last .plan) =
-        (c .in-Err .ensures tt, rw (c .store-in-Err .ensures .task, c .store-in-Err .ensures .plan) (c .new .ensures .week)) in
+    (c .in-Err .ensures tt, rw (c .store-in-Err .ensures .task, c .store-in-Err .ensures .plan) (c .new .ensures .week)) in
     record { says = s; round-trip = round-trip _ _ _ (c .store-in-Err .last .plan) s }

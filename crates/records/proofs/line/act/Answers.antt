@@ -66,8 +66,9 @@ returns c =
     let t = c .in-Continue-adds .ensures tt in
     let u = c .in-Continue-deletes .ensures tt in
     let v = u .1 in
-    let d : Deed = record { name = c .in-Continue-name .name .now; price = c .in-Continue-price .price; needs = s .0 .0; adds = t .0 .0; deletes = v .0 } in
-    (d,
-    record { name = n .0; price = q .0; needs = s .0 .1; adds = t .0 .1; deletes = v .1 },
-    whole-deed _ _ _ _ _ _ _ _ _ _ (s .0 .0) (t .0 .0) (v .0) (n .1) (q .1) (s .1) (s .0 .2) (t .1) (t .0 .2) (u .0) (v .2),
-    record { name = refl; price = refl; needs = s .0 .2; adds = t .0 .2; deletes = v .2 })
+    let d : Deed = record { name = c .in-Continue-name .name .now; price = c .in-Continue-price .price; needs = s .0 .0; adds = t .0 .0; deletes = v .0 } in (
+      d,
+      record { name = n .0; price = q .0; needs = s .0 .1; adds = t .0 .1; deletes = v .1 },
+      whole-deed _ _ _ _ _ _ _ _ _ _ (s .0 .0) (t .0 .0) (v .0) (n .1) (q .1) (s .1) (s .0 .2) (t .1) (t .0 .2) (u .0) (v .2),
+      record { name = refl; price = refl; needs = s .0 .2; adds = t .0 .2; deletes = v .2 },
+    )

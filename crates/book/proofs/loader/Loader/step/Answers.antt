@@ -11,7 +11,8 @@ returns-then-action-len c w (t, p) m = omega (arith, described-length (w .deeds)
 
 pub returns : need.returns
 returns c w (t, p) =
-    let e = c .in-Ok .ensures tt in
-    ((omega arith, omega (arith, e .0, ap length p), omega (arith, described-length (w .deeds) (contents (c .args .self .now .task .actions)) (t .actions))),
-    (record { facts = t .facts; actions = t .actions; start = t .start; goal = t .goal }, e .1 ∙ ap (λ xs. xs ++ c .args .action ∷ []) p),
-    omega arith)
+    let e = c .in-Ok .ensures tt in (
+      (omega arith, omega (arith, e .0, ap length p), omega (arith, described-length (w .deeds) (contents (c .args .self .now .task .actions)) (t .actions))),
+      (record { facts = t .facts; actions = t .actions; start = t .start; goal = t .goal }, e .1 ∙ ap (λ xs. xs ++ c .args .action ∷ []) p),
+      omega arith,
+    )
