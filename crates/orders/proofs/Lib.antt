@@ -1,0 +1,13 @@
+pub mod Below
+pub mod DrivingOpen
+pub mod DrivingOrders
+pub mod DrivingPlaces
+pub mod Home
+pub mod Least
+pub mod Parts
+pub mod Pigeonhole
+pub mod Places
+pub mod Sorting
+pub mod Standing
+pub mod Trees
+pub mod Wanting

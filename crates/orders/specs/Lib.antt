@@ -1,0 +1,7 @@
+pub mod Check
+pub mod Driving
+pub mod DrivingTheorems
+pub mod Facts
+pub mod Running
+pub mod Sheets
+pub mod Theorems
