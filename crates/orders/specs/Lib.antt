@@ -4,4 +4,5 @@ pub mod DrivingTheorems
 pub mod Facts
 pub mod Running
 pub mod Sheets
+pub mod SmallSheets
 pub mod Theorems
