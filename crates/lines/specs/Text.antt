@@ -5,7 +5,7 @@ use lib.Chars.{codes}
 use Rattle.std.specs.Written.{decimal}
 use Rattle.std.specs.shelf.Lists.{joined}
 use Rattle.lines.specs.declared.answer.Reply.{Reply}
-use Rattle.lines.specs.declared.answer.Reply.the-variants.{Bad}
+use Rattle.lines.specs.declared.answer.Reply.the-variants.{Bad, Unlaid}
 
 -- a number behind a tab
 abbrev pub field : ℕ → List ℕ
@@ -35,3 +35,4 @@ listing-text price steps = price-line price ++ steps-from 0 steps
 -- what a reply says
 abbrev pub reply-text : Reply → List ℕ
 reply-text (Bad number line) = line-text (codes "bad") (number ∷ line ∷ [])
+reply-text (Unlaid place fact) = line-text (codes "unlaid") (3 ∷ place ∷ fact ∷ [])

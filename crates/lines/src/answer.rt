@@ -20,4 +20,6 @@ impl ShortBuffer {
 pub enum Reply {
     // Line `line` of the input is refused, for the reason `number`.
     Bad { number: u32, line: usize },
+    // The plan cannot be laid: the fact is wanting at the place.
+    Unlaid { place: usize, fact: usize },
 }

@@ -33,6 +33,7 @@ pub fn reply(what: Reply, out: &mut [u8]) -> Result<usize, ShortBuffer>
 {
     match what {
         Reply::Bad { number, line } => only_line(out, b"bad", &[number as usize, line]),
+        Reply::Unlaid { place, fact } => only_line(out, b"unlaid", &[3, place, fact]),
     }
 }
 
