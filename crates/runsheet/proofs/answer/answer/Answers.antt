@@ -1,18 +1,17 @@
-use mathlib.Core.Bool.{true}
-use Rattle.std.proofs.shelf.Results.{err-from-errBy}
-use Rattle.lines.specs.Text.{listing-text}
-use Rattle.runsheet.proofs.Prices.{accepted-text}
+use Rattle.runsheet.proofs.Laid.{bad-text, listed-text, only-wanting, unlaid-text, writes-as}
 use Rattle.runsheet.proofs.answer.answer.Needs as need
 
-pub returns-in-Break-len-2 : need.returns-in-Break-len-2
-returns-in-Break-len-2 c =
-    let p = err-from-errBy (c .from-residual-in-Break-len-2 .result) (c .from-residual-in-Break-len-2 .ensures .1) in
-    let t = accepted-text _ _ (c .load .last .plan) (c .in-Ok .price) _ (c .in-rest .ensures tt .says) (c .as-slice-steps .ensures) (c .in-Ok .ensures tt .1) in
-    let e = c .in-Break-len-2 .ensures tt in
-    rw (p .1) (true, listing-text (c .in-Ok .price) (c .as-slice-steps .result .now), t, e .0, e .1)
+pub returns-in-Err : need.returns-in-Err
+returns-in-Err c = writes-as _ _ (bad-text _ (c .in-Err .fault) _ _ (c .in-Err .ensures tt .says .0) (c .number .ensures) (c .line .ensures)) _ _ _ (c .replied .ensures)
 
-pub returns : need.returns
-returns c =
-    let t = accepted-text _ _ (c .load .last .plan) (c .in-Ok .price) _ (c .in-rest .ensures tt .says) (c .as-slice-steps .ensures) (c .in-Ok .ensures tt .1) in
-    let e = c .in-Continue-len-2 .ensures tt in
-    (listing-text (c .in-Ok .price) (c .as-slice-steps .result .now), t, e .0, e .1, e .2)
+pub unreachable-requires : need.unreachable-requires
+unreachable-requires c κs = only-wanting _ _ (c .load .last .plan) (c .in-rest .ensures tt .says) _ (c .as-slice .ensures) (c .in-Err-lay .fault) (c .in-rest-wanting-of .ensures tt) (c .in-Err-lay .ensures tt)
+
+pub returns-in-Ok : need.returns-in-Ok
+returns-in-Ok c =
+    let l = c .in-Ok .ensures tt in
+    writes-as _ _ (listed-text _ _ (c .load .last .plan) (c .in-rest .ensures tt .says) _ (c .as-slice .ensures) _ (l .1) (l .3)) _ _ _ (c .listed .ensures)
+
+pub returns-in-Some : need.returns-in-Some
+returns-in-Some c =
+    writes-as _ _ (unlaid-text _ _ (c .load .last .plan) (c .in-rest .ensures tt .says) _ (c .as-slice .ensures) (c .in-Some .place) (c .in-Some .fact) (c .in-Err-lay .fault) (c .in-Some .ensures tt) (c .in-Err-lay .ensures tt)) _ _ _ (c .replied-in-Err-lay .ensures)

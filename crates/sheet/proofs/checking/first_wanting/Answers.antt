@@ -1,0 +1,29 @@
+use Prim.Native.Nat.{ℕ}
+use mathlib.Core.Logic.{⊎-elim}
+use mathlib.Core.Path.{sym, subst, _∙_}
+use native.Mathlib.Omega.{arith}
+use Rattle.std.proofs.shelf.Tests.{cases-eq, cases-lt}
+use Rattle.sets.proofs.Members.{member-room}
+use Rattle.sheet.proofs.Lowest.{good-from, lowest-from, same-missing}
+use Rattle.sheet.proofs.SheetRules.{sheet-rules}
+use Rattle.sheet.proofs.checking.first_wanting.Needs as need
+use Rattle.sheet.specs.Sheets.{outline}
+use Rattle.sheet.specs.Verdicts.{effects}
+
+pub loop-place-again : need.loop-place-again
+loop-place-again c p f l =
+    let place = c .loop-place .place in
+    let here = ⊎-elim (c .loop-fact .inv f) (λ m. member-room (c .wanting-at-wanting .result) f (omega (arith, c .loop-fact-test .left))) (cases-lt f (c .loop-fact .fact)) in
+    let told = sym (same-missing (c .new-setting .ensures .0) (c .new-setting .ensures .1) place f) ∙ sym (c .wanting-at-wanting .ensures f) ∙ here in
+    ⊎-elim (λ e. rw e told) (λ n. c .loop-place .inv p f (omega arith)) (cases-eq p place)
+
+pub returns-then-has : need.returns-then-has
+returns-then-has c =
+    let told = λ (f : ℕ). sym (same-missing (c .new-setting .ensures .0) (c .new-setting .ensures .1) (c .loop-place .place) f) ∙ sym (c .wanting-at-wanting .ensures f) in
+    lowest-from (outline (c .args .sheet .now)) (sheet-rules (c .args .sheet .now)) (effects (c .args .task .now) (c .args .sheet .now)) (c .loop-place .place) (c .loop-fact .fact)
+    (told (c .loop-fact .fact) ∙ sym (c .if-has .ensures tt)) (c .loop-place .inv) (λ f l. told f ∙ c .loop-fact .inv f l)
+
+pub returns-after-loop-place : need.returns-after-loop-place
+returns-after-loop-place c =
+    good-from (outline (c .args .sheet .now)) (sheet-rules (c .args .sheet .now)) (effects (c .args .task .now) (c .args .sheet .now))
+    (λ p f l. c .loop-place .inv p f (omega (arith, c .loop-place-test .left, c .steps-place-end .ensures)))

@@ -1,0 +1,5 @@
+pub mod Faults
+pub mod Masks
+pub mod Rows
+pub mod Sheets
+pub mod Verdicts
