@@ -2,6 +2,13 @@ pub mod Below
 pub mod DrivingOpen
 pub mod DrivingOrders
 pub mod DrivingPlaces
+pub mod EditGroup
+pub mod EditLoosen
+pub mod EditMoves
+pub mod EditParts
+pub mod EditReplace
+pub mod EditRuns
+pub mod EditSwap
 pub mod Home
 pub mod Least
 pub mod Parts

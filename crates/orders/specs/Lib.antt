@@ -1,6 +1,8 @@
 pub mod Check
 pub mod Driving
 pub mod DrivingTheorems
+pub mod EditTheorems
+pub mod Edits
 pub mod Facts
 pub mod Running
 pub mod Sheets

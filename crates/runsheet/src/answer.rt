@@ -56,7 +56,10 @@ fn replied(what: Reply, out: &mut [u8]) -> Result<Outcome, ShortBuffer>
     ensures { λ r. ⌜ Writes (λ accepted text. (accepted ≡ false) × (text ≡ reply-text what)) (now (out .entry)) r (now (out .exit)) ⌝ }
 {
     let len = reply(what, out)?;
-    Ok(Outcome { accepted: false, len })
+    Ok(Outcome {
+        accepted: false,
+        len,
+    })
 }
 
 fn listed(task: &Task, sheet: &Sheet, out: &mut [u8]) -> Result<Outcome, ShortBuffer>
@@ -65,7 +68,10 @@ fn listed(task: &Task, sheet: &Sheet, out: &mut [u8]) -> Result<Outcome, ShortBu
     let price = sheet.price(&BookTariff { task });
     let plan = plan_of(sheet);
     let len = listing(price, plan.as_slice(), out)?;
-    Ok(Outcome { accepted: true, len })
+    Ok(Outcome {
+        accepted: true,
+        len,
+    })
 }
 
 // Writes the answer to the front of `out`.
@@ -75,7 +81,10 @@ pub fn answer(book: &[u8], out: &mut [u8]) -> Result<Outcome, ShortBuffer>
     let mut task = Task::new();
     let mut plan = ArrayVec::new(0);
     if let Err(fault) = load(book, &mut task, &mut plan) {
-        let what = Reply::Bad { number: fault.number(), line: fault.line() };
+        let what = Reply::Bad {
+            number: fault.number(),
+            line: fault.line(),
+        };
         return replied(what, out);
     }
     match lay(&task, plan.as_slice()) {

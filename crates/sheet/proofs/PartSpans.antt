@@ -41,8 +41,8 @@ module _ (s : Outline) (rules : Rules s) (i j : ℕ) where
       within x c d q h =
           let earlier : a ≤ c = ⊎-elim (λ l. absurd (none c d l q)) (λ l. l) (cases-lt c a) in
           let longest : d ≤ b = ⊎-elim
-              (λ e. most d (subst (λ (v : ℕ). Parts s i j v d) e q))
-              (λ n. omega (arith, rules .nested a b c d (p .block) (q .block), p .has, q .has)) (cases-eq c a) in
+          (λ e. most d (subst (λ (v : ℕ). Parts s i j v d) e q))
+          (λ n. omega (arith, rules .nested a b c d (p .block) (q .block), p .has, q .has)) (cases-eq c a) in
           omega (arith, h)
 
   pub part-is-step : (i ≡ j → ⊥) → NoneBelow s i j (i + 1) → IsPart s i j i i

@@ -19,17 +19,6 @@ use task::Action;
 use task::Facts;
 use task::Task;
 
-// A sheet under a task, with what each step adds, and what it takes down: deletes and does not add.
-#[derive(Drop)]
-struct Setting<'t, 's> {
-    task: &'t Task,
-    sheet: &'s Sheet,
-    adds: [Facts; 128],
-    takes: [Facts; 128],
-    ghost added: { IsTable adds (effects (now task) (now sheet) .adds) },
-    ghost taken: { IsTable takes (takes-down (effects (now task) (now sheet))) },
-}
-
 // The action of the step at `p`, one that does nothing where there is none.
 fn step(task: &Task, sheet: &Sheet, p: usize) -> Action
     ensures needs { λ r. ⌜ ((f : ℕ) → member (r .needs .words) f ≡ effects (now (task .entry)) (now (sheet .entry)) .needs p f) ⌝ }
@@ -71,6 +60,17 @@ fn supplied(adds: &[Facts], positions: &BitSet<2>, n: usize) -> Facts
         }
     }
     supplied
+}
+
+// A sheet under a task, with what each step adds, and what it takes down: deletes and does not add.
+#[derive(Drop)]
+struct Setting<'t, 's> {
+    task: &'t Task,
+    sheet: &'s Sheet,
+    adds: [Facts; 128],
+    takes: [Facts; 128],
+    ghost added: { IsTable adds (effects (now task) (now sheet) .adds) },
+    ghost taken: { IsTable takes (takes-down (effects (now task) (now sheet))) },
 }
 
 impl<'t, 's> Setting<'t, 's> {

@@ -6,5 +6,12 @@ mod sheet;
 
 pub use checking::check;
 pub use fault::SheetFault;
+pub use fault::SheetFaultDebug;
+pub use fault::SheetFaultEq;
+pub use fault::SheetFaultPartialEq;
+pub use rows::row;
 pub use sheet::Sheet;
 pub use sheet::lay;
+
+#[cfg(test)]
+mod tests;

@@ -11,7 +11,11 @@ use sets::bits::BitSet;
 pub fn row<const W: usize>(rows: &[BitSet<W>], i: usize) -> BitSet<W>
     ensures { λ r. ⌜ ((j : ℕ) → member (r .words) j ≡ in-row (now (rows .entry)) i j) ⌝ }
 {
-    if i < rows.len() { rows[i] } else { BitSet::empty() }
+    if i < rows.len() {
+        rows[i]
+    } else {
+        BitSet::empty()
+    }
 }
 
 // The highest member.

@@ -21,7 +21,7 @@ impl Sheet {
         ensures { λ r. ⌜ BySome r
             ((outline (now (self .entry)) .size ≤ i) ⊎ ((outline (now (self .entry)) .size ≤ j) ⊎ (i ≡ j)))
             (λ part. (i < outline (now (self .entry)) .size) × (j < outline (now (self .entry)) .size) × (i ≡ j → ⊥)
-                × IsPart (outline (now (self .entry))) i j (part .0) (part .1)) ⌝ }
+            × IsPart (outline (now (self .entry))) i j (part .0) (part .1)) ⌝ }
     {
         let n = self.steps();
         if i >= n || j >= n || i == j {
@@ -47,7 +47,7 @@ impl Sheet {
     }
 
     // The positions of the part of `i` against `j`.
-    fn part_mask(&self, i: usize, j: usize) -> BitSet<2>
+    pub fn part_mask(&self, i: usize, j: usize) -> BitSet<2>
         ensures { λ r. ⌜ ((x : ℕ) → member (r .words) x ≡ (together (outline (now (self .entry))) x i j && ltb x (outline (now (self .entry)) .size))) ⌝ }
     {
         if i >= self.steps() || i == j {
@@ -58,7 +58,7 @@ impl Sheet {
     }
 
     // The positions tied before `p`: all of them for the place after the last step.
-    pub(crate) fn ahead(&self, p: usize) -> BitSet<2>
+    pub fn ahead(&self, p: usize) -> BitSet<2>
         ensures { λ r. ⌜ ((x : ℕ) → member (r .words) x ≡ leads (outline (now (self .entry))) x p) ⌝ }
     {
         let n = self.steps();

@@ -1,8 +1,10 @@
 use Prim.Native.Nat.{ℕ}
 use mathlib.Core.Logic.{⊎-elim}
-use mathlib.Core.Path.{sym, subst, _∙_}
+use mathlib.Core.Bool.{false}
+use mathlib.Core.Path.{_≡_, sym, _∙_}
 use native.Mathlib.Omega.{arith}
 use Rattle.std.proofs.shelf.Tests.{cases-eq, cases-lt}
+use Rattle.orders.specs.Check.{missing}
 use Rattle.sets.proofs.Members.{member-room}
 use Rattle.sheet.proofs.Lowest.{good-from, lowest-from, same-missing}
 use Rattle.sheet.proofs.SheetRules.{sheet-rules}
@@ -13,9 +15,11 @@ use Rattle.sheet.specs.Verdicts.{effects}
 pub loop-place-again : need.loop-place-again
 loop-place-again c p f l =
     let place = c .loop-place .place in
-    let here = ⊎-elim (c .loop-fact .inv f) (λ m. member-room (c .wanting-at-wanting .result) f (omega (arith, c .loop-fact-test .left))) (cases-lt f (c .loop-fact .fact)) in
-    let told = sym (same-missing (c .new-setting .ensures .0) (c .new-setting .ensures .1) place f) ∙ sym (c .wanting-at-wanting .ensures f) ∙ here in
-    ⊎-elim (λ e. rw e told) (λ n. c .loop-place .inv p f (omega arith)) (cases-eq p place)
+    let set = c .wanting-at-wanting .result in
+    let none = ⊎-elim (c .loop-fact .inv f) (λ m. member-room set f (omega (arith, c .loop-fact-test .left))) (cases-lt f (c .loop-fact .fact)) in
+    let told = same-missing (c .new-setting .ensures .0) (c .new-setting .ensures .1) place f in
+    let here : missing (outline (c .args .sheet .now)) (effects (c .args .task .now) (c .args .sheet .now)) place f ≡ false = cc (c .wanting-at-wanting .ensures f) in
+    ⊎-elim (λ e. rw e here) (λ n. c .loop-place .inv p f (omega arith)) (cases-eq p place)
 
 pub returns-then-has : need.returns-then-has
 returns-then-has c =

@@ -17,14 +17,14 @@ loop-x-again c f =
     let positions = member (c .args .positions .now .words) in
     let before = c .loop-x .inv f in
     elim (c .if-has .came) [
-        then-has w ↦
-            let t = w .if-has .ensures tt in
-            let now = ap (λ (set : BitSet 1). member (set .words) f) (w .supplied-is) in
-            let put = w .union-supplied .ensures f in
-            let here = w .row .ensures f in
-            grind (arith, cases-bool (adds x f), cases-bool (some-below x (λ y. adds y f && positions y))) ∙ sym (below-more (λ y. adds y f && positions y) x)
+      | then-has w ↦
+          let t = w .if-has .ensures tt in
+          let now = ap (λ (set : BitSet 1). member (set .words) f) (w .supplied-is) in
+          let put = w .union-supplied .ensures f in
+          let here = w .row .ensures f in
+          grind (arith, cases-bool (adds x f), cases-bool (some-below x (λ y. adds y f && positions y))) ∙ sym (below-more (λ y. adds y f && positions y) x)
       | else-has w ↦
-            let t = w .if-has .ensures tt in
-            let now = ap (λ (set : BitSet 1). member (set .words) f) (w .supplied-is) in
-            grind (arith, cases-bool (adds x f), cases-bool (some-below x (λ y. adds y f && positions y))) ∙ sym (below-more (λ y. adds y f && positions y) x)
+          let t = w .if-has .ensures tt in
+          let now = ap (λ (set : BitSet 1). member (set .words) f) (w .supplied-is) in
+          grind (arith, cases-bool (adds x f), cases-bool (some-below x (λ y. adds y f && positions y))) ∙ sym (below-more (λ y. adds y f && positions y) x)
     ]

@@ -26,7 +26,7 @@ returns-then-is-empty c f =
     let needed = member (c .args .needs .now .words) f in
     let taken : member (c .intersection-taken .result .words) f ≡ (needed && takes e d f) = cc (c .intersection-taken .ensures f, c .row .ensures f, setting .taken d f) in
     let why : ((needed && takes e d f) ≡ false) ⊎ ((eqb d p ≡ true) ⊎ (leads s p d ≡ true)) = elim (c .then-is-empty .came) [
-        then-is-empty·by·then-is-empty w ↦ inl (sym taken ∙ w .if-is-empty .ensures tt f)
+      | then-is-empty·by·then-is-empty w ↦ inl (sym taken ∙ w .if-is-empty .ensures tt f)
       | then-is-empty·by·else-is-empty·then-d-p w ↦ inr (inl (eq-eqb d p (w .if-d-p .taken)))
       | then-is-empty·by·else-is-empty·else-d-p·then-is-tied w ↦ inr (inr (or-left _ _ (sym (w .if-is-tied .ensures tt))))
     ] in
@@ -44,7 +44,7 @@ returns c f =
     let adds = in-row (setting .adds) in
     let (position, ahead) = c .pre in
     let back : some-below (s .size) (λ x. adds x f && between x) ≡ some-below (s .size) (λ x. e .adds x f && forced s d p x) = below-same (s .size) _ _
-        (λ x l. cc (setting .added x f, forced-is s d p x between (member (c .args .ahead .now .words)) (c .forced-forced .ensures) ahead l)) in
+    (λ x l. cc (setting .added x f, forced-is s d p x between (member (c .args .ahead .now .words)) (c .forced-forced .ensures) ahead l)) in
     let loose : leads s p d ≡ false = let t = c .if-is-tied .ensures tt in grind (arith, tells) in
     let counted = ap (λ (n : ℕ). some-below n (λ x. adds x f && between x)) (c .steps .ensures) in
     cc (c .minus .ensures f, c .intersection-taken .ensures f, c .row .ensures f, setting .taken d f, c .supplied .ensures f, is-lost needed (takes e d f) (eqb d p) (leads s p d) (some-below (s .size) (λ x. e .adds x f && forced s d p x)) (ne-eqb d p (c .if-d-p .left)) loose)

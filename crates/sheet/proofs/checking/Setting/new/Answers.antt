@@ -41,7 +41,7 @@ ghost-result c =
     let few = contents-fit (c .args .sheet .now .steps) in
     let (_, _, added, taken) = c .loop-p .inv in
     let past : (part : Action → BitSet 1) (q f : ℕ) → c .loop-p .p ≤ q → has-fact part (action-at (c .args .task .now) numbers q) f ≡ false =
-        λ part q f l. nothing-past part (c .args .task .now) numbers q (omega (arith, c .loop-p-test .left)) f in (
+    λ part q f l. nothing-past part (c .args .task .now) numbers q (omega (arith, c .loop-p-test .left)) f in (
       table-all (e .adds) (c .loop-p .adds) (c .loop-p .p) added (past (λ a. a .adds)),
       (table-all (takes e) (c .loop-p .takes) (c .loop-p .p) taken (λ q f l. and-left _ _ (past (λ a. a .deletes) q f l)), tt),
     )

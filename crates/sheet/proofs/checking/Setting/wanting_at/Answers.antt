@@ -19,7 +19,7 @@ loop-d-holds c f =
     let adds = in-row (setting .adds) in
     let ahead = member (c .ahead-ahead .result .words) in
     let brought : some-below (s .size) (λ x. adds x f && ahead x) ≡ some-below (s .size) (λ x. e .adds x f && leads s x (c .args .p)) =
-        below-same (s .size) _ _ (λ x _. cc (setting .added x f, c .ahead-ahead .ensures x)) in
+    below-same (s .size) _ _ (λ x _. cc (setting .added x f, c .ahead-ahead .ensures x)) in
     let counted = ap (λ (n : ℕ). some-below n (λ x. adds x f && ahead x)) (c .steps-n .ensures) in
     cc (c .minus-wanting .ensures f, c .needed-needs .ensures f, c .union-brought .ensures f, c .supplied .ensures f, first-wanting (needed s e (c .args .p) f) (e .start f) (some-below (s .size) (λ x. e .adds x f && leads s x (c .args .p))))
 

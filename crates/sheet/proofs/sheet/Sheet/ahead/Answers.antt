@@ -30,13 +30,13 @@ loop-x-again c =
     let x = c .loop-x .x in
     chosen-more (λ y. outline (c .args .self .now) .tied y (c .args .p)) (member (c .loop-x .ahead .words)) (member (c .if-is-tied .ahead .words)) x (c .loop-x .inv)
     (λ y. elim (c .if-is-tied .came) [
-        then-is-tied w ↦
-            let put : ltb x 128 ≡ true = lt-ltb x 128 (omega (arith, c .loop-x-test .taken)) in
-            ap (λ (set : BitSet 2). member (set .words) y) (w .ahead-is) ∙ cc (w .insert .ensures .members y, w .if-is-tied .ensures tt)
+      | then-is-tied w ↦
+          let put : ltb x 128 ≡ true = lt-ltb x 128 (omega (arith, c .loop-x-test .taken)) in
+          ap (λ (set : BitSet 2). member (set .words) y) (w .ahead-is) ∙ cc (w .insert .ensures .members y, w .if-is-tied .ensures tt)
       | else-is-tied w ↦
-            let kept = ap (λ (set : BitSet 2). member (set .words) y) (w .ahead-is) in
-            let t = w .if-is-tied .ensures tt in
-            grind (arith, cases-bool (member (c .loop-x .ahead .words) y), cases-bool (eqb y x))
+          let kept = ap (λ (set : BitSet 2). member (set .words) y) (w .ahead-is) in
+          let t = w .if-is-tied .ensures tt in
+          grind (arith, cases-bool (member (c .loop-x .ahead .words) y), cases-bool (eqb y x))
     ])
 
 pub returns : need.returns
