@@ -3,6 +3,9 @@ mod checked;
 mod fault;
 mod grouping;
 mod loosening;
+mod pairs;
+mod replacing;
+mod swapping;
 mod ungrouping;
 
 pub use fault::EditFault;
@@ -12,4 +15,6 @@ pub use fault::EditFaultPartialEq;
 pub use fault::FromSheetFault;
 pub use grouping::group;
 pub use loosening::loosen;
+pub use replacing::replace;
+pub use swapping::swap;
 pub use ungrouping::ungroup;
