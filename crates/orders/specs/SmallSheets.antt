@@ -99,6 +99,23 @@ two-loose-discs = record {
   goal = 3 ∷ 4 ∷ [];
 }
 
+-- take down, put up, take down, put up and use one fact, which only the last needs; the two pairs are free of each other,
+-- so neither step that puts it up is safe by itself, and in all six running orders one of them comes last
+abbrev two-suppliers : SmallSheet
+two-suppliers = record {
+  steps =
+      record { needs = []; adds = []; deletes = 0 ∷ [] }
+      ∷ record { needs = []; adds = 0 ∷ []; deletes = [] }
+      ∷ record { needs = []; adds = []; deletes = 0 ∷ [] }
+      ∷ record { needs = []; adds = 0 ∷ []; deletes = [] }
+      ∷ record { needs = 0 ∷ []; adds = []; deletes = [] }
+      ∷ [];
+  ties = (0, 1) ∷ (2, 3) ∷ (0, 4) ∷ (1, 4) ∷ (2, 4) ∷ (3, 4) ∷ [];
+  blocks = [];
+  start = [];
+  goal = [];
+}
+
 abbrev pub table : List (SmallSheet × Option (ℕ × ℕ))
 table =
     (empty (0 ∷ []) (0 ∷ []), None)
@@ -106,6 +123,7 @@ table =
     ∷ (renewal, None)
     ∷ (two-discs, None)
     ∷ (two-loose-discs, Some (0, 0))
+    ∷ (two-suppliers, None)
     ∷ []
 
 -- every row of the table holds, by the running orders of its sheet
