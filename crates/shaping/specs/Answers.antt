@@ -1,11 +1,10 @@
 -- What each edit answers: by the sheet before, the answer and the sheet after, for every input.
-use Rattle.std.specs.Prelude.{◌≡◌, ℕ, ◌<◌, ◌≤◌, Bool, true, false, ◌&&◌, ◌||◌, ◌⊎◌, List, Result, MatchResult, nat_le, nat_lt}
+use Rattle.std.specs.Prelude.{◌≡◌, ℕ, ◌<◌, ◌≤◌, Bool, true, false, ◌&&◌, ◌||◌, ◌⊎◌, Result, MatchResult, nat_le, nat_lt}
 use Rattle.shaping.specs.declared.fault.EditFault.{EditFault}
 use Rattle.shaping.specs.declared.fault.EditFault.TheVariants.{Position, Block, Tie, Between, Sheet as OfSheet}
 use Rattle.orders.specs.Check.{together}
 use Rattle.orders.specs.Edits.{CanGroup, CanLoosen, grouped, loosened, ungrouped}
 use Rattle.orders.specs.Facts.{Good}
-use Rattle.orders.specs.Running.{RunningOrder}
 use Rattle.orders.specs.Sheets.{Outline, Rules}
 use Rattle.sheet.specs.Sheets.{actions, outline}
 use Rattle.sheet.specs.Verdicts.{Passes, Refused, effects}
@@ -37,8 +36,6 @@ pub record IsGrouped (before : Sheet) (a b : ℕ) (after : Sheet) : Type 0 where
   pub new_outline : outline after ≡ grouped (outline before) a b
   -- whatever keeps the rules, has a to b as a block and has the ties of before, has the ties of after
   pub fewest_ties : (t : Outline) → Rules t → t.block a b ≡ true → ((x y : ℕ) → (outline before).tied x y ≡ true → t.tied x y ≡ true) → (x y : ℕ) → (outline after).tied x y ≡ true → t.tied x y ≡ true
-  -- every running order was one before
-  pub orders_are_old : (order : List ℕ) → RunningOrder (outline after) order → RunningOrder (outline before) order
   -- if no fact is wanting before, none is after
   pub stays_good : (task : Task) → Good (outline before) (effects task before) → Good (outline after) (effects task after)
 

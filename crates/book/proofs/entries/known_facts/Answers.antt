@@ -4,10 +4,10 @@ use Rattle.text.proofs.Lists.{reads_more, reads_all}
 use Rattle.book.proofs.ReadSoFar.{next_known, inserted}
 use Rattle.book.proofs.entries.known_facts.Goals as goal
 
-pub returns-in-default-next : goal.returns-in-default-next
-returns-in-default-next c set is =
+pub returns-in_default-next : goal.returns-in_default-next
+returns-in_default-next c set is =
     let i = c.loop-next.invariant in
-    let end = rw c.in-default-next.is at c.in-Ok.ensures in
+    let end = rw c.in_default-next.is at c.in-Ok.ensures in
     let all = (reads_all i.1 end.1 set).0 is in
     rw all (i.2, i.3)
 

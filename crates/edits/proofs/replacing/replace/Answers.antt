@@ -5,28 +5,28 @@ use Rattle.edits.proofs.replacing.replace.Goals as goal
 use Rattle.edits.specs.Replacing.{IsReplaced}
 use Rattle.sheet.specs.declared.sheet.Sheet.{Sheet}
 
-pub returns-in-err-asked : goal.returns-in-err-asked
-returns-in-err-asked g c =
-    let p = err_from_is_err_and c.from-residual.result c.from-residual.ensures.1 in
-    rw (p.1, p.2) (not_asked c.args.task.now c.args.sheet.now _ _ _ _ _ c.in-err-asked.ensures, refl)
+pub returns-in_err-asked : goal.returns-in_err-asked
+returns-in_err-asked g c =
+    let p = err_from_is_err_and c.from_residual.result c.from_residual.ensures.1 in
+    rw (p.1, p.2) (not_asked c.args.task.now c.args.sheet.now _ _ _ _ _ c.in_err-asked.ensures, refl)
 
 pub returns-then-before-after : goal.returns-then-before-after
 returns-then-before-after g c = (
-  not_cheaper c.args.task.now c.args.sheet.now _ _ _ (g.T.Tariff.prices c.args.tariff.now) _ c.in-ok-asked.ensures (omega (arith, c.if-before-after.true, c.price-before.ensures, c.price-after.ensures)),
+  not_cheaper c.args.task.now c.args.sheet.now _ _ _ (g.T.Tariff.prices c.args.tariff.now) _ c.in_ok-asked.ensures (omega (arith, c.if-before-after.true, c.price-before.ensures, c.price-after.ensures)),
   refl,
 )
 
-pub returns-in-err-adopt : goal.returns-in-err-adopt
-returns-in-err-adopt g c =
-    let p = err_from_is_err_and c.from-residual-in-err-adopt.result c.from-residual-in-err-adopt.ensures.1 in
-    let (why, same) = c.in-err-adopt.ensures in
+pub returns-in_err-adopt : goal.returns-in_err-adopt
+returns-in_err-adopt g c =
+    let p = err_from_is_err_and c.from_residual-in_err-adopt.result c.from_residual-in_err-adopt.ensures.1 in
+    let (why, same) = c.in_err-adopt.ensures in
     rw (p.1, p.2) (
-      refused_by_check c.args.task.now c.args.sheet.now _ _ _ (g.T.Tariff.prices c.args.tariff.now) _ c.in-ok-asked.ensures (omega (arith, c.if-before-after.false, c.price-before.ensures, c.price-after.ensures)) _ why,
+      refused_by_check c.args.task.now c.args.sheet.now _ _ _ (g.T.Tariff.prices c.args.tariff.now) _ c.in_ok-asked.ensures (omega (arith, c.if-before-after.false, c.price-before.ensures, c.price-after.ensures)) _ why,
       same,
     )
 
 pub returns : goal.returns
 returns g c =
-    let (good, same) = c.in-ok-adopt.ensures in
-    let done = accepted c.args.task.now c.args.sheet.now _ _ _ (g.T.Tariff.prices c.args.tariff.now) _ c.in-ok-asked.ensures (omega (arith, c.if-before-after.false, c.price-before.ensures, c.price-after.ensures)) good in
+    let (good, same) = c.in_ok-adopt.ensures in
+    let done = accepted c.args.task.now c.args.sheet.now _ _ _ (g.T.Tariff.prices c.args.tariff.now) _ c.in_ok-asked.ensures (omega (arith, c.if-before-after.false, c.price-before.ensures, c.price-after.ensures)) good in
     rw (same, c.price-before.ensures, c.price-after.ensures) done

@@ -7,49 +7,49 @@ use Rattle.records.specs.Tabs.{◌·◌}
 use Rattle.records.proofs.FirstField.{past_name, past_number, past_set}
 use Rattle.records.proofs.line.act.Goals as goal
 
-pub returns-in-err-name : goal.returns-in-err-name
-returns-in-err-name c =
-    MatchResult-from_err _ _ _ c.from-residual.ensures.0 (λ _ d p e. c.in-err-name.ensures.1 (d.name, _) (p.name, e))
+pub returns-in_err-name : goal.returns-in_err-name
+returns-in_err-name c =
+    MatchResult-from_err _ _ _ c.from_residual.ensures.0 (λ _ d p e. c.in_err-name.ensures.1 (d.name, _) (p.name, e))
 
-pub returns-in-err-price : goal.returns-in-err-price
-returns-in-err-price c =
-    MatchResult-from_err _ _ _ c.from-residual-in-err-price.ensures.0 (λ _ d p e.
-    let n = c.in-ok-name.ensures in
+pub returns-in_err-price : goal.returns-in_err-price
+returns-in_err-price c =
+    MatchResult-from_err _ _ _ c.from_residual-in_err-price.ensures.0 (λ _ d p e.
+    let n = c.in_ok-name.ensures in
     let e₁ = (past_name _ _ _ d.name _ n.0 p.name n.1 e).1 in
-    c.in-err-price.ensures.1 (d.price, _) (p.price, e₁))
+    c.in_err-price.ensures.1 (d.price, _) (p.price, e₁))
 
-pub returns-in-err-needs : goal.returns-in-err-needs
-returns-in-err-needs c =
-    MatchResult-from_err _ _ _ c.from-residual-in-err-needs.ensures.0 (λ _ d p e.
-    let n = c.in-ok-name.ensures in
+pub returns-in_err-needs : goal.returns-in_err-needs
+returns-in_err-needs c =
+    MatchResult-from_err _ _ _ c.from_residual-in_err-needs.ensures.0 (λ _ d p e.
+    let n = c.in_ok-name.ensures in
     let e₁ = (past_name _ _ _ d.name _ n.0 p.name n.1 e).1 in
-    let q = c.in-ok-price.ensures in
+    let q = c.in_ok-price.ensures in
     let e₂ = (past_number _ _ _ d.price _ q.0 p.price q.1 e₁).1 in
-    c.in-err-needs.ensures.1 (commas d.needs, _) ((d.needs, p.needs, refl), e₂))
+    c.in_err-needs.ensures.1 (commas d.needs, _) ((d.needs, p.needs, refl), e₂))
 
-pub returns-in-err-adds : goal.returns-in-err-adds
-returns-in-err-adds c =
-    MatchResult-from_err _ _ _ c.from-residual-in-err-adds.ensures.0 (λ _ d p e.
-    let n = c.in-ok-name.ensures in
+pub returns-in_err-adds : goal.returns-in_err-adds
+returns-in_err-adds c =
+    MatchResult-from_err _ _ _ c.from_residual-in_err-adds.ensures.0 (λ _ d p e.
+    let n = c.in_ok-name.ensures in
     let e₁ = (past_name _ _ _ d.name _ n.0 p.name n.1 e).1 in
-    let q = c.in-ok-price.ensures in
+    let q = c.in_ok-price.ensures in
     let e₂ = (past_number _ _ _ d.price _ q.0 p.price q.1 e₁).1 in
-    let s = c.in-ok-needs.ensures in
+    let s = c.in_ok-needs.ensures in
     let e₃ = (past_set _ _ _ (commas d.needs) _ s.0 (d.needs, p.needs, refl) s.1 e₂).1 in
-    c.in-err-adds.ensures.1 (commas d.adds, _) ((d.adds, p.adds, refl), e₃))
+    c.in_err-adds.ensures.1 (commas d.adds, _) ((d.adds, p.adds, refl), e₃))
 
-pub returns-in-err-deletes : goal.returns-in-err-deletes
-returns-in-err-deletes c =
-    MatchResult-from_err _ _ _ c.from-residual-in-err-deletes.ensures.0 (λ _ d p e.
-    let n = c.in-ok-name.ensures in
+pub returns-in_err-deletes : goal.returns-in_err-deletes
+returns-in_err-deletes c =
+    MatchResult-from_err _ _ _ c.from_residual-in_err-deletes.ensures.0 (λ _ d p e.
+    let n = c.in_ok-name.ensures in
     let e₁ = (past_name _ _ _ d.name _ n.0 p.name n.1 e).1 in
-    let q = c.in-ok-price.ensures in
+    let q = c.in_ok-price.ensures in
     let e₂ = (past_number _ _ _ d.price _ q.0 p.price q.1 e₁).1 in
-    let s = c.in-ok-needs.ensures in
+    let s = c.in_ok-needs.ensures in
     let e₃ = (past_set _ _ _ (commas d.needs) _ s.0 (d.needs, p.needs, refl) s.1 e₂).1 in
-    let t = c.in-ok-adds.ensures in
+    let t = c.in_ok-adds.ensures in
     let e₄ = (past_set _ _ _ (commas d.adds) _ t.0 (d.adds, p.adds, refl) t.1 e₃).1 in
-    c.in-err-deletes.ensures.1 (commas d.deletes) (sym e₄, (d.deletes, p.deletes, refl)))
+    c.in_err-deletes.ensures.1 (commas d.deletes) (sym e₄, (d.deletes, p.deletes, refl)))
 
 whole_deed : (bs n r₁ : List ℕ) (k : ℕ) (r₂ s r₃ t r₄ u ss ts us : List ℕ) → bs ≡ n · r₁ → r₁ ≡ decimal k · r₂ → r₂ ≡ s · r₃ → s ≡ commas ss → r₃ ≡ t · r₄ → t ≡ commas ts
     → u ≡ r₄ → u ≡ commas us → bs ≡ n · decimal k · commas ss · commas ts · commas us
@@ -57,13 +57,13 @@ whole_deed bs n r₁ k r₂ s r₃ t r₄ u ss ts us a b c d e f g h = cc
 
 pub returns : goal.returns
 returns c =
-    let n = c.in-ok-name.ensures in
-    let q = c.in-ok-price.ensures in
-    let s = c.in-ok-needs.ensures in
-    let t = c.in-ok-adds.ensures in
-    let u = c.in-ok-deletes.ensures in
+    let n = c.in_ok-name.ensures in
+    let q = c.in_ok-price.ensures in
+    let s = c.in_ok-needs.ensures in
+    let t = c.in_ok-adds.ensures in
+    let u = c.in_ok-deletes.ensures in
     let v = u.1 in
-    let d : Deed = record { name = c.in-ok-name.name.now; price = c.in-ok-price.price; needs = s.0.0; adds = t.0.0; deletes = v.0 } in (
+    let d : Deed = record { name = c.in_ok-name.name.now; price = c.in_ok-price.price; needs = s.0.0; adds = t.0.0; deletes = v.0 } in (
       d,
       record { name = n.0; price = q.0; needs = s.0.1; adds = t.0.1; deletes = v.1 },
       whole_deed _ _ _ _ _ _ _ _ _ _ s.0.0 t.0.0 v.0 n.1 q.1 s.1 s.0.2 t.1 t.0.2 u.0 v.2,

@@ -14,55 +14,55 @@ no_start bs none l p w e = grind arith
 no_goal : (bs : List ℕ) → ((set : List ℕ) → IsFactSet set → bs ≡ commas set → ⊥) → (l : Line) → Proper l → word l ≡ Goal → bs ≡ fields l → ⊥
 no_goal bs none l p w e = grind arith
 
-pub returns-in-err-numbers : goal.returns-in-err-numbers
-returns-in-err-numbers c =
-    MatchResult-from_err _ _ _ c.from-residual-in-err-numbers.ensures.0 (λ _ l p w. no_start _ (λ set q e. c.in-err-numbers.ensures.1 _ (refl, (set, q, e))) l p (w ∙ c.in-Start.is))
+pub returns-in_err-numbers : goal.returns-in_err-numbers
+returns-in_err-numbers c =
+    MatchResult-from_err _ _ _ c.from_residual-in_err-numbers.ensures.0 (λ _ l p w. no_start _ (λ set q e. c.in_err-numbers.ensures.1 _ (refl, (set, q, e))) l p (w ∙ c.in-Start.is))
 
-pub returns-in-err-numbers-2 : goal.returns-in-err-numbers-2
-returns-in-err-numbers-2 c =
-    MatchResult-from_err _ _ _ c.from-residual-in-err-numbers-2.ensures.0 (λ _ l p w. no_goal _ (λ set q e. c.in-err-numbers-2.ensures.1 _ (refl, (set, q, e))) l p (w ∙ c.in-Goal.is))
+pub returns-in_err-numbers-2 : goal.returns-in_err-numbers-2
+returns-in_err-numbers-2 c =
+    MatchResult-from_err _ _ _ c.from_residual-in_err-numbers-2.ensures.0 (λ _ l p w. no_goal _ (λ set q e. c.in_err-numbers-2.ensures.1 _ (refl, (set, q, e))) l p (w ∙ c.in-Goal.is))
 
-pub returns-in-ok-act : goal.returns-in-ok-act
-returns-in-ok-act c = let a = c.in-ok-act.ensures in (act a.0, a.1, sym c.in-Act.is, a.2, (a.0, refl, a.3))
+pub returns-in_ok-act : goal.returns-in_ok-act
+returns-in_ok-act c = let a = c.in_ok-act.ensures in (act a.0, a.1, sym c.in-Act.is, a.2, (a.0, refl, a.3))
 
-pub returns-in-ok-numbers : goal.returns-in-ok-numbers
-returns-in-ok-numbers c =
-    let n = c.in-ok-numbers.ensures in
+pub returns-in_ok-numbers : goal.returns-in_ok-numbers
+returns-in_ok-numbers c =
+    let n = c.in_ok-numbers.ensures in
     let s = n.1 in
     (start s.0, s.1, sym c.in-Start.is, sym n.0 ∙ s.2, (s.0, refl, s.2))
 
-pub returns-in-ok-numbers-2 : goal.returns-in-ok-numbers-2
-returns-in-ok-numbers-2 c =
-    let n = c.in-ok-numbers-2.ensures in
+pub returns-in_ok-numbers-2 : goal.returns-in_ok-numbers-2
+returns-in_ok-numbers-2 c =
+    let n = c.in_ok-numbers-2.ensures in
     let s = n.1 in
     (goal' s.0, s.1, sym c.in-Goal.is, sym n.0 ∙ s.2, (s.0, refl, s.2))
 
-pub returns-in-ok-number-2 : goal.returns-in-ok-number-2
-returns-in-ok-number-2 c =
-    let n = c.in-ok-number-2.ensures in
-    (edit (swap c.in-ok-number-2.field-0), n.0, sym c.in-Swap.is, n.1, (swap c.in-ok-number-2.field-0, refl, refl))
+pub returns-in_ok-number-2 : goal.returns-in_ok-number-2
+returns-in_ok-number-2 c =
+    let n = c.in_ok-number-2.ensures in
+    (edit (swap c.in_ok-number-2.field-0), n.0, sym c.in-Swap.is, n.1, (swap c.in_ok-number-2.field-0, refl, refl))
 
-pub returns-in-ok-first : goal.returns-in-ok-first
-returns-in-ok-first c =
-    let n = c.in-ok-first.ensures in
-    let e = group c.in-ok-first.first c.in-ok-first.last in
+pub returns-in_ok-first : goal.returns-in_ok-first
+returns-in_ok-first c =
+    let n = c.in_ok-first.ensures in
+    let e = group c.in_ok-first.first c.in_ok-first.last in
     (edit e, (n.0, n.1), sym c.in-Group.is, n.2, (e, refl, refl))
 
-pub returns-in-ok-first-2 : goal.returns-in-ok-first-2
-returns-in-ok-first-2 c =
-    let n = c.in-ok-first-2.ensures in
-    let e = ungroup c.in-ok-first-2.first c.in-ok-first-2.last in
+pub returns-in_ok-first-2 : goal.returns-in_ok-first-2
+returns-in_ok-first-2 c =
+    let n = c.in_ok-first-2.ensures in
+    let e = ungroup c.in_ok-first-2.first c.in_ok-first-2.last in
     (edit e, (n.0, n.1), sym c.in-Ungroup.is, n.2, (e, refl, refl))
 
-pub returns-in-ok-before : goal.returns-in-ok-before
-returns-in-ok-before c =
-    let n = c.in-ok-before.ensures in
-    let e = loosen c.in-ok-before.before c.in-ok-before.behind in
+pub returns-in_ok-before : goal.returns-in_ok-before
+returns-in_ok-before c =
+    let n = c.in_ok-before.ensures in
+    let e = loosen c.in_ok-before.before c.in_ok-before.behind in
     (edit e, (n.0, n.1), sym c.in-Loosen.is, n.2, (e, refl, refl))
 
-pub returns-in-ok-first-3 : goal.returns-in-ok-first-3
-returns-in-ok-first-3 c =
-    let n = c.in-ok-first-3.ensures in
+pub returns-in_ok-first-3 : goal.returns-in_ok-first-3
+returns-in_ok-first-3 c =
+    let n = c.in_ok-first-3.ensures in
     let l = n.2 in
-    let e = replace c.in-ok-first-3.first c.in-ok-first-3.last l.0 in
+    let e = replace c.in_ok-first-3.first c.in_ok-first-3.last l.0 in
     (edit e, (n.0, n.1, l.1), sym c.in-Replace.is, l.3, (e, refl, (l.0, refl, l.2)))

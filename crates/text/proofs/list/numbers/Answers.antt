@@ -7,7 +7,7 @@ loop-n-init c = some_list c.args.rising _ c.args.text.now c.new-entries.ensures
 
 pub loop-n-preserved : goal.loop-n-preserved
 loop-n-preserved c =
-    let next = rw c.in-Some.is at c.in-ok-n.ensures in
+    let next = rw c.in-Some.is at c.in_ok-n.ensures in
     let step = some_more c.args.rising _ _ c.loop-n.least c.in-Some.n next.2 (λ must. grind (arith, c.else-rising.either)) in
     let whole = c.loop-n.invariant in
     (λ s. whole.0 (step.1 s), λ s. step.0 (whole.1 s))
@@ -16,11 +16,11 @@ pub returns-then-n-least : goal.returns-then-n-least
 returns-then-n-least c = (
   refl,
   λ bs h.
-      let next = rw c.in-Some.is at c.in-ok-n.ensures in
+      let next = rw c.in-Some.is at c.in_ok-n.ensures in
       omega (arith, some_fits c.args.rising _ _ c.loop-n.least c.in-Some.n next.2 (c.loop-n.invariant.1 (rw h.0 at h.1)) c.if-rising.true),
 )
 
 pub returns : goal.returns
 returns c =
-    let ended = rw c.in-default.is at c.in-ok-n.ensures in
+    let ended = rw c.in_default.is at c.in_ok-n.ensures in
     (refl, c.loop-n.invariant.0 ([], (ended.1 []).1 refl, λ must. tt))

@@ -9,19 +9,19 @@ use Rattle.week.proofs.answering.edited.Goals as goal
 same_listing : (price price' : ℕ) (steps plan steps' : List ℕ) → price ≡ price' → steps ≡ plan → plan ≡ steps' → listing_text price steps ≡ listing_text price' steps'
 same_listing price price' steps plan steps' p s t = rw (p, s, t) (λ i. listing_text price' steps')
 
-pub returns-in-err-at : goal.returns-in-err-at
-returns-in-err-at c =
-    let p = err_from_is_err_and c.from-residual.result c.from-residual.ensures.1 in
-    rw p.1 (λ w fits e is. outgrown w _ _ is _ _ _ _ (c.in-err-at.ensures.says (said w) fits.forms (week_changes_fit w fits) e))
+pub returns-in_err-at : goal.returns-in_err-at
+returns-in_err-at c =
+    let p = err_from_is_err_and c.from_residual.result c.from_residual.ensures.1 in
+    rw p.1 (λ w fits e is. outgrown w _ _ is _ _ _ _ (c.in_err-at.ensures.says (said w) fits.forms (week_changes_fit w fits) e))
 
-pub returns-in-err-len : goal.returns-in-err-len
-returns-in-err-len c =
-    let p = err_from_is_err_and c.from-residual-in-err-len.result c.from-residual-in-err-len.ensures.1 in
-    let (short, kept) = c.in-err-len.ensures in
+pub returns-in_err-len : goal.returns-in_err-len
+returns-in_err-len c =
+    let p = err_from_is_err_and c.from_residual-in_err-len.result c.from_residual-in_err-len.ensures.1 in
+    let (short, kept) = c.in_err-len.ensures in
     rw p.1 (λ w fits e is.
-    listing_outgrown w _ _ is _ c.in-ok-at.at _ _ (c.in-ok-at.ensures.says (said w) fits.forms (week_changes_fit w fits) e) _ (same_listing _ _ _ _ _ c.price-price.ensures c.as-slice.ensures c.plan-of-plan.ensures) _ _ short kept)
+    listing_outgrown w _ _ is _ c.in_ok-at.at _ _ (c.in_ok-at.ensures.says (said w) fits.forms (week_changes_fit w fits) e) _ (same_listing _ _ _ _ _ c.price-price.ensures c.as-slice.ensures c.plan-of-plan.ensures) _ _ short kept)
 
 pub returns : goal.returns
 returns c w fits e is =
-    let (put, within) = c.in-ok-len.ensures in
-    listed_behind w _ _ is _ c.in-ok-at.at _ _ (c.in-ok-at.ensures.says (said w) fits.forms (week_changes_fit w fits) e) _ (same_listing _ _ _ _ _ c.price-price.ensures c.as-slice.ensures c.plan-of-plan.ensures) _ _ put within
+    let (put, within) = c.in_ok-len.ensures in
+    listed_behind w _ _ is _ c.in_ok-at.at _ _ (c.in_ok-at.ensures.says (said w) fits.forms (week_changes_fit w fits) e) _ (same_listing _ _ _ _ _ c.price-price.ensures c.as-slice.ensures c.plan-of-plan.ensures) _ _ put within

@@ -9,10 +9,10 @@ loop-edit-init c = (omega arith, λ lines forms fits e. work_begins _ _ _ lines 
 pub reply-at-requires : goal.reply-at-requires
 reply-at-requires c = omega (arith, c.loop-edit.invariant.0, c.loop-edit.auto.out)
 
-pub returns-in-err-len : goal.returns-in-err-len
-returns-in-err-len c =
-    let p = err_from_is_err_and c.from-residual.result c.from-residual.ensures.1 in
-    let (short, same) = c.in-err-len.ensures in
+pub returns-in_err-len : goal.returns-in_err-len
+returns-in_err-len c =
+    let p = err_from_is_err_and c.from_residual.result c.from_residual.ensures.1 in
+    let (short, same) = c.in_err-len.ensures in
     rw (p.1, same) (record {
       says = λ lines forms fits e.
           let w = c.loop-edit.invariant.1 lines forms fits e in
@@ -27,7 +27,7 @@ loop-edit-smaller c = c.in-Some.ensures.falls refl
 
 pub loop-edit-preserved : goal.loop-edit-preserved
 loop-edit-preserved c =
-    let (put, fits_in) = c.in-ok-len.ensures in (
+    let (put, fits_in) = c.in_ok-len.ensures in (
       omega (arith, c.loop-edit.auto.out),
       λ lines forms fits e.
           let w = c.loop-edit.invariant.1 lines forms fits e in
@@ -40,6 +40,6 @@ pub returns : goal.returns
 returns c = record {
   says = λ lines forms fits e.
       let w = c.loop-edit.invariant.1 lines forms fits e in
-      work_ends _ _ _ lines _ _ _ _ c.loop-edit.invariant.0 w (c.in-default.ensures.says w.more w.forms w.left);
+      work_ends _ _ _ lines _ _ _ _ c.loop-edit.invariant.0 w (c.in_default.ensures.says w.more w.forms w.left);
   within = omega (arith, c.loop-edit.invariant.0, c.loop-edit.auto.out);
 }

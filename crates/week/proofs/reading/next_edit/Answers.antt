@@ -8,11 +8,11 @@ use Rattle.week.specs.Editing.{changes_in}
 pub loop-next-init : goal.loop-next-init
 loop-next-init c = ((λ lines forms e. (lines, forms, e, refl)), omega arith)
 
-pub returns-in-default-next : goal.returns-in-default-next
-returns-in-default-next c = record {
+pub returns-in_default-next : goal.returns-in_default-next
+returns-in_default-next c = record {
   says = λ lines forms e.
       let s = c.loop-next.invariant.0 lines forms e in
-      s.3 ∙ ap changes_in (none_left s.0 c.loop-next.reader c.next.new.self s.2 (subst (λ r. Next c.loop-next.reader (Ok r) c.next.new.self) c.in-default-next.is c.in-Ok.ensures));
+      s.3 ∙ ap changes_in (none_left s.0 c.loop-next.reader c.next.new.self s.2 (subst (λ r. Next c.loop-next.reader (Ok r) c.next.new.self) c.in_default-next.is c.in-Ok.ensures));
   falls = λ e. absurd (false≢true e);
 }
 
@@ -30,12 +30,12 @@ loop-next-smaller c = fewer_left c.loop-next.reader c.next.new.self c.in-Some.re
 pub loop-next-preserved : goal.loop-next-preserved
 loop-next-preserved c =
     let next = subst (λ r. Next c.loop-next.reader (Ok r) c.next.new.self) c.in-Some.is c.in-Ok.ensures in
-    (passed_over c.args.reader.now c.loop-next.reader c.next.new.self c.in-Some.record next c.loop-next.invariant.0 c.in-default-record.not-Edit, omega (arith, fewer_left c.loop-next.reader c.next.new.self c.in-Some.record next, c.loop-next.invariant.1))
+    (passed_over c.args.reader.now c.loop-next.reader c.next.new.self c.in-Some.record next c.loop-next.invariant.0 c.in_default-record.not-Edit, omega (arith, fewer_left c.loop-next.reader c.next.new.self c.in-Some.record next, c.loop-next.invariant.1))
 
 pub returns : goal.returns
 returns c = record {
   says = λ lines forms e.
       let s = c.loop-next.invariant.0 lines forms e in
-      s.3 ∙ ap changes_in (none_bad s.0 s.1 c.loop-next.reader c.next.new.self c.in-default.field-0 s.2 c.in-default.ensures);
+      s.3 ∙ ap changes_in (none_bad s.0 s.1 c.loop-next.reader c.next.new.self c.in_default.field-0 s.2 c.in_default.ensures);
   falls = λ e. absurd (false≢true e);
 }

@@ -11,10 +11,10 @@ pushed B (Err _) old new done n (full, _, _) same few = absurd (omega (arith, le
 pub loop-next-init : goal.loop-next-init
 loop-next-init c = ([], reads_none _ c.new-entries.ensures, λ few. c.new-numbers.ensures)
 
-pub returns-in-default-next : goal.returns-in-default-next
-returns-in-default-next c list is few =
+pub returns-in_default-next : goal.returns-in_default-next
+returns-in_default-next c list is few =
     let i = c.loop-next.invariant in
-    let ended = rw c.in-default-next.is at c.in-Ok.ensures in
+    let ended = rw c.in_default-next.is at c.in-Ok.ensures in
     let all = (reads_all i.1 ended.1 list).0 is in
     i.2 (omega (arith, ap length all)) ∙ sym all
 
@@ -28,4 +28,4 @@ loop-next-preserved c =
     (i.0 ++ c.in-Some.number ∷ [], reads_more i.1 next.2, pushed _ c.push.result _ _ i.0 c.in-Some.number c.push.ensures i.2)
 
 pub returns : goal.returns
-returns c list is few = absurd (reads_broken c.loop-next.invariant.1 c.in-default.ensures.2 list is)
+returns c list is few = absurd (reads_broken c.loop-next.invariant.1 c.in_default.ensures.2 list is)

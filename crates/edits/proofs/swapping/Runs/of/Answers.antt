@@ -9,12 +9,12 @@ use Rattle.sheet.specs.Sheets.{outline}
 pub invariant-of-result : goal.invariant-of-result
 invariant-of-result c =
     let rules = sheet_rules c.args.sheet.now in
-    let parts = neighbours (outline c.args.sheet.now) rules _ _ _ _ _ c.if-k-eq0.false c.in-ok-first.ensures c.in-ok-last.ensures in
+    let parts = neighbours (outline c.args.sheet.now) rules _ _ _ _ _ c.if-k-eq0.false c.in_ok-first.ensures c.in_ok-last.ensures in
     let b = bounds (outline c.args.sheet.now) rules _ _ _ parts in
     (b.left, (b.right, (omega (arith, b.size, contents_fit c.args.sheet.now.steps), tt)))
 
 pub returns : goal.returns
 returns c = (
   refl,
-  neighbours (outline c.args.sheet.now) (sheet_rules c.args.sheet.now) _ _ _ _ _ c.if-k-eq0.false c.in-ok-first.ensures c.in-ok-last.ensures,
+  neighbours (outline c.args.sheet.now) (sheet_rules c.args.sheet.now) _ _ _ _ _ c.if-k-eq0.false c.in_ok-first.ensures c.in_ok-last.ensures,
 )

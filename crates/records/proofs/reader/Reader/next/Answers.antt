@@ -9,21 +9,21 @@ use Rattle.records.proofs.reader.Reader.next.Goals as goal
 pub returns-then-is-empty : goal.returns-then-is-empty
 returns-then-is-empty c = (sym c.rest-rest.ensures ∙ nil_from_length _ (eqb-true _ _ (sym c.if-is-empty.ensures)), refl)
 
-pub returns-in-default : goal.returns-in-default
-returns-in-default c =
-    (some_left _ _ c.rest-rest.ensures c.if-is-empty.ensures, rw (← c.rest-rest.ensures) (no_end _ c.in-default.ensures), refl)
+pub returns-in_default : goal.returns-in_default
+returns-in_default c =
+    (some_left _ _ c.rest-rest.ensures c.if-is-empty.ensures, rw (← c.rest-rest.ensures) (no_end _ c.in_default.ensures), refl)
 
-pub returns-in-err-record : goal.returns-in-err-record
-returns-in-err-record c =
-    let p = err_from_is_err_and c.from-residual.result c.from-residual.ensures.1 in
+pub returns-in_err-record : goal.returns-in_err-record
+returns-in_err-record c =
+    let p = err_from_is_err_and c.from_residual.result c.from_residual.ensures.1 in
     rw p.1
-    (some_left _ _ c.rest-rest.ensures c.if-is-empty.ensures, rw (← c.rest-rest.ensures) (no_record _ _ _ c.in-Some.ensures c.in-err-record.ensures), refl)
+    (some_left _ _ c.rest-rest.ensures c.if-is-empty.ensures, rw (← c.rest-rest.ensures) (no_record _ _ _ c.in-Some.ensures c.in_err-record.ensures), refl)
 
 pub invariant-of-self : goal.invariant-of-self
 invariant-of-self c = (within _ _ _ _ _ c.args.self.now.within c.rest-rest.ensures c.in-Some.ensures.0, (omega (arith, c.args.self.now.counted), tt))
 
 pub returns : goal.returns
 returns c =
-    let r = c.in-ok-record.ensures in
+    let r = c.in_ok-record.ensures in
     let cut = c.in-Some.ensures.0 in
     (r.0, r.1, r.3, front_line _ _ _ _ _ _ c.rest-rest.ensures cut r.2 (moved _ _ _ _ _ c.rest-rest.ensures cut), refl)

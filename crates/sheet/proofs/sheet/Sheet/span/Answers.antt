@@ -27,7 +27,7 @@ loop-a-preserved c =
     none_more (outline c.args.self.now) (row_lt c.args.self.now.blocks) c.args.i c.args.j _ _ c.limits-low.ensures
     c.loop-a.a c.loop-a.auto.a (omega arith) (member c.intersection.result.words)
     (λ b. cc (c.intersection.ensures b, c.row.ensures b, c.minus-reaching.ensures b, c.below.ensures b, c.below-2.ensures b))
-    c.loop-a.invariant c.in-default.ensures
+    c.loop-a.invariant c.in_default.ensures
 
 pub returns : goal.returns
 returns c = record {

@@ -11,8 +11,8 @@ parted c = record {
   lacks = c.parted.ensures.1;
 }
 
-pub returns-in-default-number : goal.returns-in-default-number
-returns-in-default-number c = (refl, refl, parted_broken (parted (goal.at.returns-in-default-number c).After-parted) c.in-default-number.ensures.1)
+pub returns-in_default-number : goal.returns-in_default-number
+returns-in_default-number c = (refl, refl, parted_broken (parted (goal.at.returns-in_default-number c).After-parted) c.in_default-number.ensures.1)
 
 pub returns : goal.returns
 returns c =
