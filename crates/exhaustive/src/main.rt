@@ -1,5 +1,8 @@
 // Makes many small sheets with blocks, lists all running orders of each by their definition, and compares what the
 // check says with what the list says.
+
+#![tactic(auto)]
+
 use edits::{group, loosen};
 use sheet::{Sheet, SheetFault, check, lay};
 use std::alloc::{AllocError, Global};

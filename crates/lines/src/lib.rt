@@ -1,5 +1,7 @@
 // Writes the program's output lines, byte for byte, into a buffer of the caller's.
 
+#![tactic(auto)]
+
 mod answer;
 
 ghost use Rattle.std.specs.Prelude.{◌≡◌, ◌+◌, ◌≤◌, length, decimal};

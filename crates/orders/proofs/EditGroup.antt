@@ -14,7 +14,7 @@ group_orders_are_old s a b order runs = record {
   positions = runs.positions;
   complete = runs.complete;
   once = runs.once;
-  kept = λ i j t. runs.kept i j (or_left (s.tied i j) (joins s a b i j) t);
+  kept = λ i j t. runs.kept i j (or_left (s.tied i j) _ t);
   unbroken = λ c d i x y k. runs.unbroken c d i x y (or_left (s.block c d) (same_run a b c d) k);
 }
 

@@ -1,11 +1,10 @@
 -- The rows of the table: one test computes over each, and says what its running orders do.
-use Rattle.std.proofs.Common.{◌≡◌, ℕ, zero, suc, ◌<◌, ◌≤◌, Bool, true, false, cond, not, ◌&&◌, ◌||◌, eqb, ltb, leb, ◌⊎◌, List, [], ◌∷◌, length, Some, None, Decides, Option, sym, refl, ap, ◌∙◌, inl, inr, ⊎_elim, arith}
-use Rattle.std.specs.List.{AllByRecursion as All}
-use Rattle.std.proofs.lemmas.Bool.{and_from, and_parts, cases_Bool, cases_eq, cases_lt, eq-eqb, eqb-true, false≢true, le-leb, leb-true, lt-ltb, ltb-true, not-true, or_cases, true≢false}
-use Rattle.std.proofs.lemmas.Bool.Decides.{nat_tests}
+use Rattle.std.proofs.Common.{◌≡◌, ℕ, zero, suc, ◌<◌, ◌≤◌, Bool, true, false, cond, not, ◌&&◌, ◌||◌, eqb, ltb, leb, ◌⊎◌, List, [], ◌∷◌, length, Some, None, Decides, Option, sym, refl, ◌∙◌, inl, inr, ⊎_elim, arith}
+use Rattle.std.specs.List.{AllByRecursion}
+use Rattle.std.proofs.lemmas.Bool.{and_from, and_parts, cases_eq, cases_lt, eq-eqb, eqb-true, false≢true, le-leb, leb-true, ltb-true, not-true, or_cases, true≢false}
 use Rattle.orders.specs.Check.{inside, missing, some_below}
 use Rattle.orders.specs.Facts.{Wanting, needed}
-use Rattle.orders.specs.Sheets.{Apart, Outline, Outside, Inside, Rules, Within}
+use Rattle.orders.specs.Sheets.{Apart, Outside, Inside, Rules, Within}
 use Rattle.orders.specs.SmallSheets.{EveryRowHolds, Finds, SmallSheet, Step, effects_of, listed, outline_of, paired, step_has, table}
 use Rattle.orders.proofs.Below.{below_is, refuted}
 use Rattle.orders.proofs.Wanting.{test_decides_wanting}
@@ -198,7 +197,7 @@ abbrev all_rows : List (SmallSheet × Option (ℕ × ℕ)) → Bool
 all_rows [] = true
 all_rows (row ∷ rows) = row_test row && all_rows rows
 
-rows_hold : (rows : List (SmallSheet × Option (ℕ × ℕ))) → all_rows rows ≡ true → All (λ (row : SmallSheet × Option (ℕ × ℕ)). Finds row.0 row.1) rows
+rows_hold : (rows : List (SmallSheet × Option (ℕ × ℕ))) → all_rows rows ≡ true → AllByRecursion (λ (row : SmallSheet × Option (ℕ × ℕ)). Finds row.0 row.1) rows
 rows_hold [] h = tt
 rows_hold (row ∷ rows) h = let a = and_parts (row_test row) (all_rows rows) h in (row_holds row a.0, rows_hold rows a.1)
 

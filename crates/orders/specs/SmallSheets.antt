@@ -1,6 +1,6 @@
 -- Small sheets and what is wanting in each, as rows of one table.
 use Rattle.std.specs.Prelude.{ℕ, zero, suc, ◌<◌, Bool, false, ◌&&◌, ◌||◌, List, [], ◌∷◌, length, Some, None, Option, ◌==◌}
-use Rattle.std.specs.List.{AllByRecursion as All}
+use Rattle.std.specs.List.{AllByRecursion}
 use Rattle.orders.specs.Facts.{Effects, Good, Wanting}
 use Rattle.orders.specs.Sheets.{Outline}
 
@@ -122,4 +122,4 @@ table =
 
 -- every row of the table holds, by the running orders of its sheet
 abbrev pub EveryRowHolds : Type 0
-EveryRowHolds = All (λ (row : SmallSheet × Option (ℕ × ℕ)). Finds row.0 row.1) table
+EveryRowHolds = AllByRecursion (λ (row : SmallSheet × Option (ℕ × ℕ)). Finds row.0 row.1) table

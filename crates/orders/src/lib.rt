@@ -1,4 +1,6 @@
 // The mathematics of run sheets: running orders, wanting facts and driving. These functions do nothing: their contracts are the theorems.
+#![tactic(auto)]
+
 ghost use Rattle.orders.specs.DrivingTheorems.{DrivingEndsRunning, DrivingIsFront, NoDeadEnd, RunningIsDriven};
 ghost use Rattle.orders.specs.EditTheorems.{GroupAddsFewest, GroupKeepsGood, GroupKeepsRules, GroupOrdersAreOld, LoosenKeepsRules, NeighboursMeet, PartsAreTiedAlike, ReplaceKeepsBlocks, ReplaceKeepsRules, ReplaceKeepsTies, SwapCarriesBlocks, SwapKeepsGood, SwapKeepsRules, SwapRenamesOrders, SwapUndone, UngroupKeepsRules};
 ghost use Rattle.orders.specs.SmallSheets.{EveryRowHolds};

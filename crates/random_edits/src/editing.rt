@@ -20,12 +20,11 @@ const LOOSENINGS: usize = 32;
 const EDITS: usize = 14;
 
 // A sheet, and the same as plain lists.
+#[derive(Clone, Copy)]
 struct Twin {
     sheet: Sheet,
     model: Model,
 }
-
-impl Copy for Twin {}
 
 // The task that the edits are mostly asked under, and two like it.
 #[derive(Drop)]

@@ -1,5 +1,8 @@
 // Compares the check and the edits with their rules on many small sheets: with the list of all running orders, made by
 // its definition, and with the rules of the edits, followed on plain lists.
+
+#![tactic(auto)]
+
 mod checking;
 mod choosing;
 mod closing;

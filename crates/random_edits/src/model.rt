@@ -8,13 +8,12 @@ use sheet::{Sheet, row};
 pub const MOST_STEPS: usize = 6;
 
 // The action numbers of the steps, the ties (i, j) and the blocks (a, b).
+#[derive(Clone, Copy)]
 pub struct Model {
     pub actions: ArrayVec<u32, MOST_STEPS>,
     pub ties: Pairs,
     pub blocks: Pairs,
 }
-
-impl Copy for Model {}
 
 fn count_of(rows: &[BitSet<2>]) -> usize {
     let mut count: usize = 0;

@@ -10,12 +10,11 @@ use edits::Edit;
 use sets::list::ArrayVec;
 
 // The sheet afterwards, and what it saves.
+#[derive(Clone, Copy)]
 pub struct Done {
     pub model: Model,
     pub saving: u32,
 }
-
-impl Copy for Done {}
 
 // Only a replacement saves anything.
 fn with_no_saving(answer: Result<Model, Refusal>) -> Result<Done, Refusal> {

@@ -6,12 +6,11 @@ use sets::list::ArrayVec;
 use sheet::{Sheet, check};
 
 // A refusal's number and what it names.
+#[derive(Clone, Copy)]
 pub struct Refusal {
     pub number: u32,
     values: ArrayVec<usize, 2>,
 }
-
-impl Copy for Refusal {}
 
 impl Refusal {
     pub fn new(number: u32) -> Self {

@@ -1,4 +1,7 @@
 // The edits under damage: other tasks, full sheets, numbers far out of range. Each is asked for, and its end is told.
+
+#![tactic(auto)]
+
 mod full;
 mod small;
 mod tasks;

@@ -1,4 +1,7 @@
 // Reads a week's book and lists its plan, priced, or says why the book is refused.
+
+#![tactic(auto)]
+
 use answer::answer;
 use anyhow::anyhow;
 use std::alloc::Global;

@@ -14,7 +14,7 @@ use Rattle.sets.proofs.Members.{member_at, member_past, member_unusable}
 
 -- what the ghost fields of a set of W words say of its words
 abbrev pub Sound : ℕ → List ℕ → Type 0
-Sound W ws = (length ws ≡ W) × (((k : ℕ) → get_or ws k 0 < 2 ^ 64) × (((i : ℕ) → member ws i ≡ true → i < 2 ^ 64) × Unit {0}))
+Sound W ws = (length ws ≡ W) × ((k : ℕ) → get_or ws k 0 < 2 ^ 64) × ((i : ℕ) → member ws i ≡ true → i < 2 ^ 64)
 
 pub zeros_at : (n k : ℕ) → get_or {A = ℕ} (replicate n 0) k 0 ≡ 0
 zeros_at n k =
@@ -88,7 +88,7 @@ module _ {f : ℕ → ℕ → ℕ} {h : Bool → Bool → Bool} (op : Wordwise f
   member_merged i = bit_same (i % 64) (merged_at (i / 64)) ∙ op.bits _ _ (i % 64) (b.fits (i / 64)) (omega arith)
 
   pub sound_merged : Sound W ws
-  sound_merged = (m.0 ∙ a.size, ((λ k. rw (merged_at k) (op.fits _ _ (a.fits k) (b.fits k))), (small, tt)))
+  sound_merged = (m.0 ∙ a.size, (λ k. rw (merged_at k) (op.fits _ _ (a.fits k) (b.fits k))), small)
     where
       quiet : h false false ≡ false
       quiet = sym (op.bits 0 0 0 (omega arith) (omega arith)) ∙ bit_same 0 op.none
@@ -139,10 +139,8 @@ module _ {W : ℕ} (ws : List ℕ) (size : length ws ≡ W) (n : ℕ) (each : (k
   pub sound_ones : n < 2 ^ 64 → Sound W ws
   sound_ones small = (
     size,
-    (
-      (λ k. ⊎_elim
-          (λ l. let m = min (n - 64 * k) 64 in omega (arith, each k l, ones_lt m, pow_mono {i = m} {j = 64} (omega arith)))
-          (λ l. omega (arith, get_or_past ws k 0 (omega arith))) (cases_lt k W)),
-      ((λ j e. let t = sym (member_ones j) ∙ e in omega (arith, ltb-true j n (and_parts _ _ t).0)), tt),
-    ),
+    (λ k. ⊎_elim
+        (λ l. let m = min (n - 64 * k) 64 in omega (arith, each k l, ones_lt m, pow_mono {i = m} {j = 64} (omega arith)))
+        (λ l. omega (arith, get_or_past ws k 0 (omega arith))) (cases_lt k W)),
+    (λ j e. let t = sym (member_ones j) ∙ e in omega (arith, ltb-true j n (and_parts _ _ t).0)),
   )

@@ -1,9 +1,8 @@
 // A set of numbers below 64 * W, a bit for each.
-ghost use Rattle.std.specs.Prelude.{◌≡◌, ℕ, ◌-◌, ◌*◌, ◌^◌, ◌<◌, min, true, false, not, ◌&&◌, ◌||◌, length, Decides, MatchBool, MatchOption, ◌==◌, nat_lt, slice_index};
+ghost use Rattle.std.specs.Prelude.{◌≡◌, ℕ, ◌-◌, ◌*◌, ◌^◌, ◌<◌, min, true, false, not, ◌&&◌, ◌||◌, length, Decides, MatchBool, MatchOption, ◌==◌, nat_lt, nat_eq, slice_index};
 ghost use Rattle.sets.specs.Member.{member, tally};
-ghost use Rattle.std.specs.Cmp.Rules.{comparing};
-ghost use Rattle.std.proofs.Common.{rules, arith};
-ghost use Rattle.std.specs.Cmp as Keys;
+ghost use Rattle.std.specs.Cmp.{on_equiv, on_per, partial_equiv_from_equiv};
+ghost use Rattle.std.specs.Cmp.Lexicographic.{pointwise, nat_list_eq_equiv};
 
 // Number i is a member where bit i % 64 of word i / 64 is set.
 #[derive(Clone, Copy)]
@@ -152,15 +151,19 @@ fn low_ones(n: usize) -> u64
 
 // Two sets are equal just where they are one value, and that is just where they have the same members.
 impl<const W: usize> PartialEq for BitSet<W> {
-    ghost equals = { λ a b r. Decides r (a ≡ b) × Decides r ((i : ℕ) → member a.words i ≡ member b.words i) };
+    ghost eq = { λ a b. pointwise nat_eq a.words b.words };
 
-    ghost laws = { Keys.partial_equiv_from_equiv (first_of (Prim.search (comparing, rules), Prim.grind (arith, Self.row.coded.inj))) };
+    ghost laws = { on_per (λ s. s.words) (partial_equiv_from_equiv nat_list_eq_equiv) };
 
-    fn eq(&self, other: &Self) -> bool {
+    fn eq(&self, other: &Self) -> bool
+        ensures value { result ≡ pointwise nat_eq self.now.words other.now.words }
+        ensures same { Decides result (self.now ≡ other.now) }
+        ensures members { Decides result ((i : ℕ) → member self.now.words i ≡ member other.now.words i) }
+    {
         self.words == other.words
     }
 }
 
 impl<const W: usize> Eq for BitSet<W> {
-    ghost laws = { first_of (Prim.search (comparing, rules), Prim.grind (arith, Self.row.coded.inj)) };
+    ghost laws = { on_equiv (λ s. s.words) nat_list_eq_equiv };
 }

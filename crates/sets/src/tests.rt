@@ -45,6 +45,6 @@ fn list_fills_up(rt: HostRuntime) {
     }
     let copy = list;
     list.clear();
-    assert!(rt; list.as_slice() == [] && copy.as_slice() == [5, 6]);
+    assert!(rt; list.as_slice() == [].as_slice() && copy.as_slice() == [5, 6].as_slice());
     assert_eq!(rt; (copy.get(1), copy.get(2)), (Some(6), None));
 }

@@ -1,5 +1,7 @@
 // The edits that leave the steps where they are, and change the ties and blocks: group, ungroup and loosen.
 // Each leaves exactly the sheet asked for, or refuses and changes nothing.
+#![tactic(auto)]
+
 mod checked;
 mod fault;
 mod grouping;

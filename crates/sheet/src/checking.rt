@@ -1,7 +1,7 @@
 // The check: whether in every running order each step finds the facts that it needs, and the goal is reached.
 ghost use Rattle.std.specs.Prelude.{◌≡◌, ℕ, ◌<◌, ◌&&◌, MatchOption};
-ghost use Rattle.orders.specs.Check.{leads, missing, some_below, taken_by, takes as takes-down};
-ghost use Rattle.orders.specs.Facts.{Good, needed as needed-there};
+ghost use Rattle.orders.specs.Check.{leads, missing, some_below, taken_by, takes as takes_down};
+ghost use Rattle.orders.specs.Facts.{Good, needed as needed_there};
 ghost use Rattle.sets.specs.Member.{member};
 ghost use Rattle.sheet.specs.Masks.{IsTable};
 ghost use Rattle.sheet.specs.Rows.{in_row};
@@ -36,7 +36,7 @@ fn step(task: &Task, sheet: &Sheet, p: usize) -> Action
 
 // The facts that are needed at place `p`.
 fn needed(task: &Task, sheet: &Sheet, p: usize) -> Facts
-    ensures { (f : ℕ) → member result.words f ≡ needed-there (outline sheet.now) (effects task.now sheet.now) p f }
+    ensures { (f : ℕ) → member result.words f ≡ needed_there (outline sheet.now) (effects task.now sheet.now) p f }
 {
     if p == sheet.steps() {
         return task.goal;
@@ -65,7 +65,7 @@ struct Setting<'t, 's> {
     adds: [Facts; 128],
     takes: [Facts; 128],
     ghost added: { IsTable adds (effects task.now sheet.now).adds },
-    ghost taken: { IsTable takes (takes-down (effects task.now sheet.now)) },
+    ghost taken: { IsTable takes (takes_down (effects task.now sheet.now)) },
 }
 
 impl<'t, 's> Setting<'t, 's> {

@@ -1,4 +1,7 @@
 // Run sheets: how a plan is laid as one, and the check that every running order of it finds its needs.
+
+#![tactic(auto)]
+
 mod checking;
 mod fault;
 mod rows;

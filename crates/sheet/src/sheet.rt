@@ -15,6 +15,7 @@ pub use laying::lay;
 
 // A step has an action number below 128. Row i of `behind` has the positions that i is tied before,
 // and row a of `blocks` the last positions of the blocks that begin at a.
+#[derive(Clone, Copy)]
 pub struct Sheet {
     pub steps: ArrayVec<u8, 128>,
     pub behind: [BitSet<2>; 128],
@@ -24,5 +25,3 @@ pub struct Sheet {
     ghost groups: { length blocks ≡ 128 },
     ghost rules: { ∥ Rules (outlined steps behind blocks) ∥₁ },
 }
-
-impl Copy for Sheet {}

@@ -1,7 +1,7 @@
 -- One test of a row, and that a row that passes it holds.
 use Rattle.std.proofs.Common.{◌≡◌, ℕ, ◌<◌, Bool, true, ◌&&◌, leb, List, [], ◌∷◌, length, Ok, Err, Decides, Result, sym, refl, ap, ◌∙◌, subst, inl, inr, arith}
 use Rattle.std.proofs.lemmas.Bool.{and_parts, le-leb, lt-leb}
-use Rattle.std.specs.List.{AllByRecursion as All}
+use Rattle.std.specs.List.{AllByRecursion}
 use Rattle.edits.specs.Applying.{Applies}
 use Rattle.shaping.specs.declared.fault.EditFault.{EditFault}
 use Rattle.orders.specs.Changes.{Change}
@@ -133,7 +133,7 @@ abbrev all_rows : List Row → Bool
 all_rows [] = true
 all_rows (row ∷ rows) = row_test row && all_rows rows
 
-rows_hold : (rows : List Row) → all_rows rows ≡ true → All Holds rows
+rows_hold : (rows : List Row) → all_rows rows ≡ true → AllByRecursion Holds rows
 rows_hold [] t = tt
 rows_hold (row ∷ rows) t = let both = and_parts (row_test row) (all_rows rows) t in (row_holds row both.0, rows_hold rows both.1)
 

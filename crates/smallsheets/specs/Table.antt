@@ -1,6 +1,6 @@
 -- The table: small tasks and sheets, and what the rules say of each.
 use Rattle.std.specs.Prelude.{ℕ, List, [], ◌∷◌}
-use Rattle.std.specs.List.{range_with_len, AllByRecursion as All}
+use Rattle.std.specs.List.{range_with_len, AllByRecursion}
 use Rattle.orders.specs.Changes.{Change}
 use Rattle.orders.specs.Changes.Change.{swap, group, ungroup, loosen, replace}
 use Rattle.smallsheets.specs.Rows.{Holds, Row}
@@ -164,4 +164,4 @@ table =
 
 -- every row of the table holds
 abbrev pub EveryRowHolds : Type 0
-EveryRowHolds = All Holds table
+EveryRowHolds = AllByRecursion Holds table

@@ -1,4 +1,7 @@
 // Small sheets, and what the rules say of each.
+
+#![tactic(auto)]
+
 ghost use Rattle.smallsheets.specs.Table.{EveryRowHolds};
 
 // What `lay`, `check` and `apply` promise leaves no other answer than the table's, and no other sheet.

@@ -1,4 +1,6 @@
 // Facts, actions and tasks, what performing an action does, and what a list of actions costs.
+#![tactic(auto)]
+
 mod actions;
 mod tariffs;
 mod tasks;

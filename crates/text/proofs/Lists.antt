@@ -1,6 +1,6 @@
 -- What a step through a list's text reads.
 use Rattle.std.proofs.Common.{◌≡◌, ℕ, ◌<◌, ◌↔◌, List, [], ◌∷◌, ◌++◌, length, get_or, Some, None, decimal, Option, sym, refl, ap, ◌∙◌, append_assoc, append-nil, arith, length-append}
-use Rattle.std.specs.List.{AllByRecursion as All}
+use Rattle.std.specs.List.{AllByRecursion}
 use Rattle.std.specs.Int.{IsInRange}
 use Rattle.std.proofs.lemmas.Fmt.{decimal_nonempty, digits_decimal}
 use Rattle.std.proofs.ByRecursion.{All-append}
@@ -21,7 +21,7 @@ same_first : (front t : List ℕ) (n : ℕ) (ns : List ℕ) → Lacks 44 front �
 same_first front t n ns lacks begins small e =
     same_parts 44 front (decimal n) t (more ns) lacks (decimal_lacks 44 n (λ digit. omega arith) small) begins (begins_more ns) e
 
-same_more : (ms ns : List ℕ) → All Small ms → All Small ns → more ms ≡ more ns → ms ≡ ns
+same_more : (ms ns : List ℕ) → AllByRecursion Small ms → AllByRecursion Small ns → more ms ≡ more ns → ms ≡ ns
 same_more [] [] p q e = refl
 same_more [] (n ∷ ns) p q e = absurd (omega (arith, ap length e))
 same_more (m ∷ ms) [] p q e = absurd (omega (arith, ap length e))
@@ -44,7 +44,7 @@ same_list bs [] (n ∷ ns) p q = absurd (omega (arith, first_digit n ns q.0.0, a
 same_list bs (m ∷ ms) [] p q = absurd (omega (arith, first_digit m ms p.0.0, ap (λ t. get_or t 0 0) (sym q.1 ∙ p.1)))
 same_list bs (m ∷ ms) (n ∷ ns) p q = same_more (m ∷ ms) (n ∷ ns) p.0 q.0 (ap (λ t. 44 ∷ t) (sym p.1 ∙ q.1))
 
-more_lacks : (c : ℕ) (ns : List ℕ) → (IsInRange 44 57 c → ⊥) → All Small ns → Lacks c (more ns)
+more_lacks : (c : ℕ) (ns : List ℕ) → (IsInRange 44 57 c → ⊥) → AllByRecursion Small ns → Lacks c (more ns)
 more_lacks c [] out small = tt
 more_lacks c (n ∷ ns) out small = (
   λ e. out (omega arith),
@@ -52,7 +52,7 @@ more_lacks c (n ∷ ns) out small = (
 )
 
 -- a byte that is not from the comma to the 9 stands in no list
-pub list_lacks : (c : ℕ) (ns : List ℕ) → (IsInRange 44 57 c → ⊥) → All Small ns → Lacks c (commas ns)
+pub list_lacks : (c : ℕ) (ns : List ℕ) → (IsInRange 44 57 c → ⊥) → AllByRecursion Small ns → Lacks c (commas ns)
 list_lacks c [] out small = (λ e. out (omega arith), tt)
 list_lacks c (n ∷ ns) out small = (more_lacks c (n ∷ ns) out small).1
 

@@ -1,10 +1,10 @@
 -- The texts of the fields. A byte is a number, and a text is a list of bytes.
 use Rattle.std.specs.Prelude.{◌≡◌, ℕ, ◌+◌, ◌<◌, ◌≤◌, Bool, true, ◌≢◌, List, [], ◌∷◌, ◌++◌, length, decimal, slice_index}
-use Rattle.std.specs.List.{AllByRecursion as All}
+use Rattle.std.specs.List.{AllByRecursion}
 
 -- c stands nowhere in bs
 abbrev pub Lacks : ℕ → List ℕ → Type 0
-Lacks c bs = All (λ b. b ≢ c) bs
+Lacks c bs = AllByRecursion (λ b. b ≢ c) bs
 
 -- the first c of bs stands between front and rest
 abbrev pub Cut : ℕ → List ℕ → List ℕ → List ℕ → Type 0
@@ -24,7 +24,7 @@ Printable b = (32 ≤ b) × (b ≤ 126)
 
 -- 1 to 40 printable bytes
 abbrev pub IsName : List ℕ → Type 0
-IsName bs = (0 < length bs) × (length bs ≤ 40) × All Printable bs
+IsName bs = (0 < length bs) × (length bs ≤ 40) × AllByRecursion Printable bs
 
 -- the numbers of ns, each after a comma
 abbrev pub more : List ℕ → List ℕ
@@ -38,7 +38,7 @@ commas (n ∷ ns) = decimal n ++ more ns
 
 -- bs is the list ns of numbers
 abbrev pub IsList : List ℕ → List ℕ → Type 0
-IsList bs ns = All Small ns × (bs ≡ commas ns)
+IsList bs ns = AllByRecursion Small ns × (bs ≡ commas ns)
 
 -- each number is above the one before it
 abbrev pub Rising : List ℕ → Type 0
@@ -46,4 +46,4 @@ Rising ns = (k : ℕ) → k + 1 < length ns → slice_index ns k < slice_index n
 
 -- numbers that a list may have, rising where they have to
 abbrev pub IsNumbers : Bool → List ℕ → Type 0
-IsNumbers rising ns = All Small ns × (rising ≡ true → Rising ns)
+IsNumbers rising ns = AllByRecursion Small ns × (rising ≡ true → Rising ns)

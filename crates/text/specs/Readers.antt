@@ -1,6 +1,6 @@
 -- What the readers answer.
 use Rattle.std.specs.Prelude.{◌≡◌, ℕ, ◌<◌, ◌↔◌, List, [], ◌∷◌, ◌++◌, length, Some, None, Ok, Err, Option, Result}
-use Rattle.std.specs.List.{AllByRecursion as All}
+use Rattle.std.specs.List.{AllByRecursion}
 use Rattle.text.specs.declared.fault.FieldFault.{FieldFault}
 use Rattle.text.specs.declared.list.Entries.{Entries}
 use Rattle.text.specs.Fields.{Small, commas}
@@ -21,7 +21,7 @@ remaining (n ∷ ns) = Some (commas (n ∷ ns))
 
 -- ns is what is left to read of e
 abbrev pub Left : Entries → List ℕ → Type 0
-Left e ns = All Small ns × (unread e ≡ remaining ns)
+Left e ns = AllByRecursion Small ns × (unread e ≡ remaining ns)
 
 -- P names just the lists that begin with done and go on with what is left of e
 pub record Reads (P : List ℕ → Type 0) (done : List ℕ) (e : Entries) : Type 0 where

@@ -1,4 +1,6 @@
 // The fields that a line of a text file is made of: numbers, names and lists of numbers, and the marks between them.
+#![tactic(auto)]
+
 pub mod fault;
 mod fields;
 mod list;

@@ -18,7 +18,11 @@ impl<'a> Entries<'a> {
     pub fn new(text: &'a [u8]) -> Self
         ensures { (ns : List ℕ) → Left result ns ↔ IsList text.now ns }
     {
-        let rest = if text == b"-" { None } else { Some(text) };
+        let rest = if text == b"-".as_slice() {
+            None
+        } else {
+            Some(text)
+        };
         Entries { rest }
     }
 

@@ -1,4 +1,7 @@
 // Loads the books named by the arguments, sound and damaged, and says of each what became of it.
+
+#![tactic(auto)]
+
 use book::load::load;
 use sets::list::ArrayVec;
 use std::{env, fs};

@@ -1,7 +1,7 @@
 -- The week's edits, and the listing behind their lines.
 use Rattle.std.proofs.Common.{◌≡◌, ℕ, ◌+◌, ◌<◌, ◌≤◌, true, ◌⊎◌, List, [], ◌∷◌, ◌++◌, map, length, drop, Ok, Err, sum_by, Result, sym, refl, ap, ◌∙◌, subst, inl, inr, append-nil, arith, length-append, length-drop}
 use Rattle.std.proofs.lemmas.List.{flat_map_more}
-use Rattle.std.specs.List.{AllByRecursion as All}
+use Rattle.std.specs.List.{AllByRecursion}
 use Rattle.book.specs.Weeks.{ChangeFits, Fits, Week, said}
 use Rattle.edits.specs.Applying.{saved}
 use Rattle.shaping.specs.declared.fault.EditFault.{EditFault}
@@ -39,8 +39,8 @@ pub week_changes : (w : Week) → changes_in (said w) ≡ w.changes
 week_changes w =
     no_changes fact (λ x l. refl) w.facts _ ∙ no_changes act (λ x l. refl) w.deeds _ ∙ no_changes step (λ x l. refl) w.steps _ ∙ all_changes w.changes
 
-pub week_changes_fit : (w : Week) → Fits w → All ChangeFits (changes_in (said w))
-week_changes_fit w fits = subst (All ChangeFits) (sym (week_changes w)) fits.change
+pub week_changes_fit : (w : Week) → Fits w → AllByRecursion ChangeFits (changes_in (said w))
+week_changes_fit w fits = subst (AllByRecursion ChangeFits) (sym (week_changes w)) fits.change
 
 module _ (w : Week) (task : Task) (laid : Sheet) (is : LaidAs w task laid) where
   edited : (changes : List Change) (answers : List (Result ℕ EditFault)) (last : Sheet) → CarriedOut task laid changes answers last → Edited w changes answers last

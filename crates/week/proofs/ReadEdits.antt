@@ -1,6 +1,6 @@
 -- The lines of a book as they are read again, and the edits among them.
 use Rattle.std.proofs.Common.{◌≡◌, ℕ, ◌<◌, ◌≤◌, List, [], ◌∷◌, ◌++◌, length, Some, None, Ok, Err, sym, refl, ap, ◌∙◌, subst, arith, length-append}
-use Rattle.std.specs.List.{AllByRecursion as All}
+use Rattle.std.specs.List.{AllByRecursion}
 use Rattle.book.specs.Weeks.{bytes}
 use Rattle.orders.specs.Changes.{Change}
 use Rattle.records.proofs.SameText.{same_line}
@@ -24,10 +24,10 @@ pub record OneRead (lines : List Line) (x : Record) (r : Reader) : Type 0 where
   pub are : lines ≡ line ∷ more
   pub says : Says x line
   pub proper : Proper line
-  pub forms : All Proper more
+  pub forms : AllByRecursion Proper more
   pub left : unread r ≡ bytes more
 
-pub one_read : (lines : List Line) → All Proper lines → (r r' : Reader) (x : Record) → unread r ≡ bytes lines → Next r (Ok (Some x)) r' → OneRead lines x r'
+pub one_read : (lines : List Line) → AllByRecursion Proper lines → (r r' : Reader) (x : Record) → unread r ≡ bytes lines → Next r (Ok (Some x)) r' → OneRead lines x r'
 one_read [] forms r r' x e (l, p, says, cut, _) = absurd (omega (arith, ap length (sym e ∙ cut), length-append (text l) (10 ∷ unread r')))
 one_read (k ∷ more) forms r r' x e (l, p, says, cut, _) =
     let split = same_cut 10 (text k) (text l) (bytes more) (unread r') (text_lacks k forms.0) (text_lacks l p) (sym e ∙ cut) in
@@ -50,13 +50,13 @@ pub none_left : (lines : List Line) (r r' : Reader) → unread r ≡ bytes lines
 none_left [] r r' e next = refl
 none_left (l ∷ more) r r' e (ended, _) = absurd (omega (arith, ap length (sym e ∙ ended), length-append (text l) (10 ∷ bytes more)))
 
-pub none_bad : (lines : List Line) → All Proper lines → (r r' : Reader) (f : RecordFault) → unread r ≡ bytes lines → Next r (Err f) r' → lines ≡ []
+pub none_bad : (lines : List Line) → AllByRecursion Proper lines → (r r' : Reader) (f : RecordFault) → unread r ≡ bytes lines → Next r (Err f) r' → lines ≡ []
 none_bad [] forms r r' f e next = refl
 none_bad (l ∷ more) forms r r' f e (some, none, _) = absurd (none l (bytes more) forms.0 e)
 
 -- the lines that are left have the same edits
 abbrev pub SameEdits : Reader → Reader → Type 0
-SameEdits first now = (lines : List Line) → All Proper lines → unread first ≡ bytes lines → (more : List Line) × All Proper more × (unread now ≡ bytes more) × (changes_in lines ≡ changes_in more)
+SameEdits first now = (lines : List Line) → AllByRecursion Proper lines → unread first ≡ bytes lines → (more : List Line) × AllByRecursion Proper more × (unread now ≡ bytes more) × (changes_in lines ≡ changes_in more)
 
 -- any other line has no edit
 passed : (x : Record) (l : Line) → Says x l → ((e : EditPart) → x ≡ Edit e → ⊥) → (changes : List Change) → with_change l changes ≡ changes
@@ -74,7 +74,7 @@ module _ (first r r' : Reader) (x : Record) (next : Next r (Ok (Some x)) r') (so
       let o = one_read s.0 s.1 r r' x s.2 next in
       (o.more, o.forms, o.left, s.3 ∙ ap changes_in o.are ∙ passed x o.line o.says none (changes_in o.more))
 
-  pub edit_read : (e : EditPart) → x ≡ Edit e → (lines : List Line) → All Proper lines → unread first ≡ bytes lines → NextEdit lines e r'
+  pub edit_read : (e : EditPart) → x ≡ Edit e → (lines : List Line) → AllByRecursion Proper lines → unread first ≡ bytes lines → NextEdit lines e r'
   edit_read e is lines forms start =
       let s = so_far lines forms start in
       let o = one_read s.0 s.1 r r' x s.2 next in

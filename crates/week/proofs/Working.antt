@@ -1,6 +1,6 @@
 -- The edits of a book as they are carried out one after another.
 use Rattle.std.proofs.Common.{◌≡◌, ℕ, ◌+◌, ◌<◌, ◌≤◌, List, [], ◌∷◌, ◌++◌, length, drop, Ok, Err, sum_by, Result, sym, refl, ap, ◌∙◌, subst, append_assoc, append-nil, arith, length-append}
-use Rattle.std.specs.List.{flat_map, AllByRecursion as All}
+use Rattle.std.specs.List.{flat_map, AllByRecursion}
 use Rattle.std.proofs.lemmas.List.{flat_map_more}
 use Rattle.std.proofs.lemmas.List.Sums.{sum_by-cons}
 use Rattle.book.proofs.Turns.{all_parts}
@@ -49,22 +49,22 @@ module _ (task : Task) (first : Sheet) (room : List ℕ) (lines : List Line) whe
   pub record Working (reader : Reader) (len : ℕ) (sheet : Sheet) (out : List ℕ) : Type 0 where
     pub front : List Change
     pub more : List Line
-    pub forms : All Proper more
+    pub forms : AllByRecursion Proper more
     pub left : unread reader ≡ bytes more
     pub split : changes_in lines ≡ front ++ changes_in more
     pub answers : List (Result ℕ EditFault)
     pub carried : CarriedOut task first front answers sheet
     pub put : Put (replies answers) room 0 len out
 
-  pub work_begins : (reader : Reader) → All Proper lines → unread reader ≡ bytes lines → Working reader 0 first room
+  pub work_begins : (reader : Reader) → AllByRecursion Proper lines → unread reader ≡ bytes lines → Working reader 0 first room
   work_begins reader forms e = record { front = []; more = lines; forms = forms; left = e; split = refl; answers = []; carried = refl; put = record { place = refl; bytes = refl } }
 
   module _ (reader reader' : Reader) (len : ℕ) (before after : Sheet) (out : List ℕ) (w : Working reader len before out) (e : Edit) (next : NextEdit w.more e reader') where
     split_more : changes_in lines ≡ (w.front ++ next.change ∷ []) ++ changes_in next.more
     split_more = w.split ∙ ap (λ (l : List Change). w.front ++ l) next.changes ∙ sym (append_assoc w.front (next.change ∷ []) (changes_in next.more))
 
-    pub next_fits : All ChangeFits (changes_in lines) → ChangeFits next.change
-    next_fits fits = (all_parts ChangeFits w.front (next.change ∷ []) (all_parts ChangeFits (w.front ++ next.change ∷ []) (changes_in next.more) (subst (All ChangeFits) split_more fits)).0).1.0
+    pub next_fits : AllByRecursion ChangeFits (changes_in lines) → ChangeFits next.change
+    next_fits fits = (all_parts ChangeFits w.front (next.change ∷ []) (all_parts ChangeFits (w.front ++ next.change ∷ []) (changes_in next.more) (subst (AllByRecursion ChangeFits) split_more fits)).0).1.0
 
     module _ (answer : Result ℕ EditFault) (applies : Applies (book_prices task) task before next.change answer after) (text : List ℕ) (is : text ≡ answer_text answer) where
       pub works_on : (len' : ℕ) (out' : List ℕ) → Put text out len len' out' → Working reader' len' after out'

@@ -1,6 +1,6 @@
 -- A book's edits, one after another, and what is said of each.
 use Rattle.std.specs.Prelude.{◌≡◌, ℕ, ◌+◌, ◌<◌, ◌≤◌, List, [], ◌∷◌, ◌++◌, length, Ok, Err, codes, Result}
-use Rattle.std.specs.List.{flat_map, AllByRecursion as All}
+use Rattle.std.specs.List.{flat_map, AllByRecursion}
 use Rattle.book.specs.Weeks.{bytes}
 use Rattle.edits.specs.Applying.{Applies}
 use Rattle.shaping.specs.Faults.{number_of, values_of}
@@ -53,7 +53,7 @@ pub record NextEdit (lines : List Line) (e : Edit) (reader : Reader) : Type 0 wh
   pub more : List Line
   pub says : EditSays e change
   pub proper : ProperChange change
-  pub forms : All Proper more
+  pub forms : AllByRecursion Proper more
   pub left : unread reader ≡ bytes more
   pub changes : changes_in lines ≡ change ∷ changes_in more
 

@@ -8,7 +8,7 @@ ghost use Rattle.records.specs.Lines.{Line, Proper, ProperChange};
 ghost use Rattle.records.specs.Records.{EditSays};
 ghost use Rattle.week.specs.Editing.{Appends, Replies, answer_text, book_prices, changes_in, list_in};
 ghost use Rattle.sets.specs.Contents.{contents};
-ghost use Rattle.std.specs.List.{AllByRecursion as All};
+ghost use Rattle.std.specs.List.{AllByRecursion};
 
 use crate::reading::{next_edit, numbers_of};
 use edits::{Edit, apply};
@@ -86,7 +86,7 @@ pub fn carry_out_all(
     sheet: &mut Sheet,
     out: &mut [u8],
 ) -> Result<usize, ShortBuffer>
-    ensures says { (lines : List Line) → All Proper lines → All ChangeFits (changes_in lines) → book.now ≡ bytes lines →
+    ensures says { (lines : List Line) → AllByRecursion Proper lines → AllByRecursion ChangeFits (changes_in lines) → book.now ≡ bytes lines →
         Replies task.now sheet.old (changes_in lines) out.old result sheet.new out.new }
     ensures within { IfOk result (λ len. len ≤ length out.new) }
 {

@@ -5,7 +5,7 @@ ghost use Rattle.records.specs.Lines.{Line, Proper};
 ghost use Rattle.records.specs.Reading.{unread};
 ghost use Rattle.week.specs.Editing.{NextEdit, changes_in};
 ghost use Rattle.sets.specs.Contents.{contents};
-ghost use Rattle.std.specs.List.{AllByRecursion as All};
+ghost use Rattle.std.specs.List.{AllByRecursion};
 ghost use Rattle.text.specs.Fields.{IsList};
 
 use records::reader::Reader;
@@ -16,7 +16,7 @@ use text::Entries;
 
 // The next edit among the lines that are still to be read.
 pub fn next_edit<'a>(reader: &mut Reader<'a>) -> Option<Edit<'a>>
-    ensures says { (lines : List Line) → All Proper lines → unread reader.old ≡ bytes lines → MatchOption result
+    ensures says { (lines : List Line) → AllByRecursion Proper lines → unread reader.old ≡ bytes lines → MatchOption result
         (changes_in lines ≡ [])
         (λ edit. NextEdit lines edit reader.new) }
     ensures falls { is_some result ≡ true → length (unread reader.new) < length (unread reader.old) }

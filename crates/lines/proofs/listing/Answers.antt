@@ -3,24 +3,24 @@ use Rattle.lines.proofs.Puts.{put_more, ahead_none, ahead_more, ahead_all}
 use Rattle.lines.proofs.Texts.{listing_parts, steps_more, steps_end}
 use Rattle.lines.proofs.listing.Goals as goal
 
-pub put-line-next-requires : goal.put-line-next-requires
-put-line-next-requires c = omega (arith, listing_parts c.args.price c.args.steps.now, c.in-Some.ensures)
+pub put_line-next-requires : goal.put_line-next-requires
+put_line-next-requires c = omega (arith, listing_parts c.args.price c.args.steps.now, c.in-Some.ensures)
 
 pub loop-position-init : goal.loop-position-init
 loop-position-init c =
     ahead_none _ _ _ (omega (arith, listing_parts c.args.price c.args.steps.now, c.in-Some.ensures))
 
-pub put-line-next-requires-in-loop-position : goal.put-line-next-requires-in-loop-position
-put-line-next-requires-in-loop-position c =
+pub put_line-next-requires-in-loop-position : goal.put_line-next-requires-in-loop-position
+put_line-next-requires-in-loop-position c =
     omega (arith, steps_more c.args.steps.now c.loop-position.position c.loop-position-test.true)
 
 pub loop-position-preserved : goal.loop-position-preserved
 loop-position-preserved c =
     ahead_more (steps_more c.args.steps.now c.loop-position.position c.loop-position-test.true) c.loop-position.invariant
-    c.put-line-next-in-loop-position.ensures
+    c.put_line-next-in-loop-position.ensures
 
 pub returns : goal.returns
 returns c =
     let rest = ahead_all (steps_end c.args.steps.now c.loop-position.position c.loop-position-test.false) c.loop-position.invariant in
-    let all = put_more (omega arith) c.put-line-next.ensures rest in
+    let all = put_more (omega arith) c.put_line-next.ensures rest in
     search rules

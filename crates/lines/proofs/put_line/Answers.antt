@@ -13,13 +13,13 @@ loop-n-init c = ahead_none _ _ _ (omega (arith, line_parts c.args.word.now c.arg
 pub put-next-requires-in-loop-n : goal.put-next-requires-in-loop-n
 put-next-requires-in-loop-n c = omega (arith, line_more c.args.numbers.now c.loop-n.n-index c.loop-n-test.true)
 
-pub put-number-next-requires : goal.put-number-next-requires
-put-number-next-requires c = omega (arith, line_more c.args.numbers.now c.loop-n.n-index c.loop-n-test.true)
+pub put_number-next-requires : goal.put_number-next-requires
+put_number-next-requires c = omega (arith, line_more c.args.numbers.now c.loop-n.n-index c.loop-n-test.true)
 
 pub loop-n-preserved : goal.loop-n-preserved
 loop-n-preserved c =
     ahead_more (line_more c.args.numbers.now c.loop-n.n-index c.loop-n-test.true) c.loop-n.invariant
-    (put_more (omega arith) c.put-next-in-loop-n.ensures c.put-number-next.ensures)
+    (put_more (omega arith) c.put-next-in-loop-n.ensures c.put_number-next.ensures)
 
 pub put-requires : goal.put-requires
 put-requires c = omega (arith, line_end c.args.numbers.now c.loop-n.n-index c.loop-n-test.false)

@@ -9,5 +9,5 @@ loop-x-init g c = (refl, λ x y. row_empty 128 c.empty-rows.result c.empty-rows.
 pub loop-x-preserved : goal.loop-x-preserved
 loop-x-preserved g c = (
   length-set _ _ _ ∙ c.loop-x.invariant.0,
-  table_more (λ x y. ltb y 128 && g.P.Pairs.pairs c.args.all.now x y) c.loop-x.rows c.loop-x.x c.row-of.result (omega (arith, c.loop-x.invariant.0)) c.loop-x.invariant.1 c.row-of.ensures,
+  table_more (λ x y. ltb y 128 && g.P.Pairs.pairs c.args.all.now x y) c.loop-x.rows c.loop-x.x c.row_of.result (omega (arith, c.loop-x.invariant.0)) c.loop-x.invariant.1 c.row_of.ensures,
 )

@@ -4,8 +4,8 @@ use Rattle.edits.proofs.replacing.asked_for.Goals as goal
 use Rattle.sheet.proofs.Laid.{known_small}
 use Rattle.sheet.specs.Sheets.{actions}
 
-pub with-list-requires : goal.with-list-requires
-with-list-requires c = record {
+pub with_list-requires : goal.with_list-requires
+with_list-requires c = record {
   run = search rules;
   whole = search rules;
   some = search rules;

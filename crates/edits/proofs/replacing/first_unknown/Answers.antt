@@ -7,7 +7,7 @@ pub returns-then-number-len : goal.returns-then-number-len
 returns-then-number-len c = record {
   at = c.loop-k.k;
   within = omega (arith, c.loop-k-test.true, length-append (actions c.args.sheet.now) c.args.list.now);
-  there = sym c.number-at-number.ensures;
+  there = sym c.number_at-number.ensures;
   lacking = omega (arith, c.if-number-len.true);
   first = c.loop-k.invariant;
 }

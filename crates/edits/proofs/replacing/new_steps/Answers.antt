@@ -10,7 +10,7 @@ pub loop-x-preserved : goal.loop-x-preserved
 loop-x-preserved c =
     let numbers = put_in (actions c.args.sheet.now) c.args.a c.args.b c.args.list.now in
     let long = length-put_in (actions c.args.sheet.now) c.args.a c.args.b c.args.list.now c.requires.0.0 c.requires.0.1 in
-    pushed_more c.loop-x.steps c.push.new.self numbers c.loop-x.x c.push.result c.loop-x.invariant (omega arith) (omega arith) (rw c.step-at.ensures at c.push.ensures)
+    pushed_more c.loop-x.steps c.push.new.self numbers c.loop-x.x c.push.result c.loop-x.invariant (omega arith) (omega arith) (rw c.step_at.ensures at c.push.ensures)
 
 pub returns : goal.returns
 returns c =

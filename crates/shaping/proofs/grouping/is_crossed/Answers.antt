@@ -11,14 +11,14 @@ pub returns-then-meets : goal.returns-then-meets
 returns-then-meets c =
     let (d, h) = c.if-meets.ensures in
     let (u, v) = and_parts _ _ h in
-    (c.loop-c.c, (d, sym (c.row.ensures d) ∙ u, (and_parts _ _ (sym (c.crossing-ends.ensures d) ∙ v)).0))
+    (c.loop-c.c, (d, sym (c.row.ensures d) ∙ u, (and_parts _ _ (sym (c.crossing_ends.ensures d) ∙ v)).0))
 
 pub loop-c-preserved : goal.loop-c-preserved
 loop-c-preserved c k d l h = ⊎_elim
     (λ e.
     let none = c.if-meets.ensures d in
     let row = c.row.ensures d in
-    let ends = c.crossing-ends.ensures d in
+    let ends = c.crossing_ends.ensures d in
     let room = row_lt c.args.sheet.now.blocks k d h in
     rw e (grind (arith, nat_tests)))
     (λ n. c.loop-c.invariant k d (omega arith) h) (cases_eq k c.loop-c.c)

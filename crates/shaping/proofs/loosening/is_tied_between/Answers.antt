@@ -8,6 +8,6 @@ pub returns : goal.returns
 returns c =
     between_covered (outline c.args.sheet.now) (sheet_rules c.args.sheet.now) c.args.i c.args.j c.requires
     (member c.union-parts.result.words) (member c.intersection-between.result.words)
-    (λ x. cc (c.union-parts.ensures x, c.part-mask.ensures x, c.part-mask-2.ensures x))
+    (λ x. cc (c.union-parts.ensures x, c.part_mask.ensures x, c.part_mask-2.ensures x))
     (λ x. cc (c.intersection-between.ensures x, c.row.ensures x, c.ahead.ensures x))
-    c.contains-all.result c.contains-all.ensures
+    c.contains_all.result c.contains_all.ensures

@@ -4,7 +4,7 @@ use Rattle.shaping.proofs.loosening.loosen.Goals as goal
 
 pub returns : goal.returns
 returns c =
-    let tied = sym c.if-not-is-tied.ensures in
-    let can = c.if-is-tied-between.ensures in
-    adopted c.args.task.now c.args.sheet.now c.loosened-sheet-asked.result _ c.loosened-sheet-asked.ensures.steps c.loosened-sheet-asked.ensures.order c.adopt.result _ _ _ c.adopt.ensures
+    let tied = sym c.if-not-is_tied.ensures in
+    let can = c.if-is_tied_between.ensures in
+    adopted c.args.task.now c.args.sheet.now c.loosened_sheet-asked.result _ c.loosened_sheet-asked.ensures.steps c.loosened_sheet-asked.ensures.order c.adopt.result _ _ _ c.adopt.ensures
     (λ k. (tied, can, k)) (λ fault r. inr (inr (inr (tied, can, r))))

@@ -5,10 +5,10 @@ use Rattle.orders.proofs.EditLoosen.{loosen_keeps_rules}
 use Rattle.sheet.proofs.SheetRules.{sheet_rules}
 use Rattle.sheet.specs.Sheets.{outline}
 
-pub invariant-of-result : goal.invariant-of-result
-invariant-of-result c =
+pub invariant_of-result : goal.invariant_of-result
+invariant_of-result c =
     let rules = loosen_keeps_rules (outline c.args.sheet.now) (sheet_rules c.args.sheet.now) c.args.i c.args.j c.requires in
-    (c.args.sheet.now.numbers, (c.loosened-ties.ensures.rows, (c.args.sheet.now.groups, (rules_kept _ _ (outlines_same _ _ refl c.loosened-ties.ensures.ties (λ a b. refl)) rules, tt))))
+    record { numbers = c.args.sheet.now.numbers; ties = c.loosened_ties.ensures.rows; groups = c.args.sheet.now.groups; rules = rules_kept _ _ (outlines_same _ _ refl c.loosened_ties.ensures.ties (λ a b. refl)) rules }
 
 pub returns : goal.returns
-returns c = record { steps = refl; order = outlines_same _ _ refl c.loosened-ties.ensures.ties (λ a b. refl) }
+returns c = record { steps = refl; order = outlines_same _ _ refl c.loosened_ties.ensures.ties (λ a b. refl) }

@@ -20,12 +20,12 @@ loop-x-preserved c =
     let x = c.loop-x.x in
     elim c.if-has.branch [
       | then-has w ↦
-          let part = sym (c.part-mask-first.ensures x) ∙ sym w.if-has.ensures in
+          let part = sym (c.part_mask-first.ensures x) ∙ sym w.if-has.ensures in
           subst (λ rows. Written new s.tied rows (x + 1)) (sym w.rows-is)
           (written_more new s.tied c.loop-x.rows x w.minus.result (omega (arith, c.loop-x-test.true)) c.loop-x.invariant
-          (λ y. cc (w.minus.ensures y, w.row.ensures y, c.part-mask-second.ensures y, loosened_in s rules c.args.i c.args.j x part y)))
+          (λ y. cc (w.minus.ensures y, w.row.ensures y, c.part_mask-second.ensures y, loosened_in s rules c.args.i c.args.j x part y)))
       | else-has w ↦
-          let part = sym (c.part-mask-first.ensures x) ∙ sym w.if-has.ensures in
+          let part = sym (c.part_mask-first.ensures x) ∙ sym w.if-has.ensures in
           subst (λ rows. Written new s.tied rows (x + 1)) (sym w.rows-is)
           (written_kept new s.tied c.loop-x.rows x c.loop-x.invariant (loosened_out s rules c.args.i c.args.j x part))
     ]

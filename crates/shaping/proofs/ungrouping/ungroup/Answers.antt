@@ -4,6 +4,6 @@ use Rattle.shaping.proofs.ungrouping.ungroup.Goals as goal
 
 pub returns : goal.returns
 returns c =
-    let block = sym c.if-not-is-block.ensures in
-    adopted c.args.task.now c.args.sheet.now c.ungrouped-sheet-asked.result _ c.ungrouped-sheet-asked.ensures.steps c.ungrouped-sheet-asked.ensures.order c.adopt.result _ _ _ c.adopt.ensures
+    let block = sym c.if-not-is_block.ensures in
+    adopted c.args.task.now c.args.sheet.now c.ungrouped_sheet-asked.result _ c.ungrouped_sheet-asked.ensures.steps c.ungrouped_sheet-asked.ensures.order c.adopt.result _ _ _ c.adopt.ensures
     (λ k. (block, k)) (λ fault r. inr (inr (block, r)))

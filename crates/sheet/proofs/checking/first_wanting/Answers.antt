@@ -11,15 +11,15 @@ use Rattle.sheet.specs.Verdicts.{effects}
 pub loop-place-preserved : goal.loop-place-preserved
 loop-place-preserved c p f l =
     let place = c.loop-place.place in
-    let set = c.wanting-at-wanting.result in
+    let set = c.wanting_at-wanting.result in
     let none = ⊎_elim (c.loop-fact.invariant f) (λ m. member_room set f (omega (arith, c.loop-fact-test.false))) (cases_lt f c.loop-fact.fact) in
     let told = same_missing c.new-setting.ensures.0 c.new-setting.ensures.1 place f in
-    let here : missing (outline c.args.sheet.now) (effects c.args.task.now c.args.sheet.now) place f ≡ false = cc (c.wanting-at-wanting.ensures f) in
+    let here : missing (outline c.args.sheet.now) (effects c.args.task.now c.args.sheet.now) place f ≡ false = cc (c.wanting_at-wanting.ensures f) in
     ⊎_elim (λ e. rw e here) (λ n. c.loop-place.invariant p f (omega arith)) (cases_eq p place)
 
 pub returns-then-has : goal.returns-then-has
 returns-then-has c =
-    let told = λ (f : ℕ). sym (same_missing c.new-setting.ensures.0 c.new-setting.ensures.1 c.loop-place.place f) ∙ sym (c.wanting-at-wanting.ensures f) in
+    let told = λ (f : ℕ). sym (same_missing c.new-setting.ensures.0 c.new-setting.ensures.1 c.loop-place.place f) ∙ sym (c.wanting_at-wanting.ensures f) in
     lowest_from (outline c.args.sheet.now) (sheet_rules c.args.sheet.now) (effects c.args.task.now c.args.sheet.now) c.loop-place.place c.loop-fact.fact
     (told c.loop-fact.fact ∙ sym c.if-has.ensures) c.loop-place.invariant (λ f l. told f ∙ c.loop-fact.invariant f l)
 

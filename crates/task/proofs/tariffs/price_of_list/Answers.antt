@@ -3,8 +3,8 @@ use Rattle.std.proofs.lemmas.List.{take_all}
 use Rattle.std.proofs.lemmas.List.Sums.{sum_by_more}
 use Rattle.task.proofs.tariffs.price_of_list.Goals as goal
 
-pub overflow-add-sum : goal.overflow-add-sum
-overflow-add-sum g c =
+pub overflow_add-sum : goal.overflow_add-sum
+overflow_add-sum g c =
     let i = c.loop-action.action-index in
     let law = g.T.Tariff.lawful c.args.tariff.now in
     let few : i ≤ 128 = omega arith in

@@ -19,5 +19,5 @@ returns-then-b-lt32 c = (
 pub returns : goal.returns
 returns c = (
   refl,
-  (omega (arith, false-eqb _ 0 c.if-is-empty.ensures), omega arith, rw (take_all c.loop-b.b-index c.args.bytes.now (omega arith)) at c.loop-b.invariant),
+  (omega (arith, false-eqb _ 0 c.if-is_empty.ensures), omega arith, rw (take_all c.loop-b.b-index c.args.bytes.now (omega arith)) at c.loop-b.invariant),
 )

@@ -19,9 +19,9 @@ returns-in_err-len c =
     let p = err_from_is_err_and c.from_residual-in_err-len.result c.from_residual-in_err-len.ensures.1 in
     let (short, kept) = c.in_err-len.ensures in
     rw p.1 (λ w fits e is.
-    listing_outgrown w _ _ is _ c.in_ok-at.at _ _ (c.in_ok-at.ensures.says (said w) fits.forms (week_changes_fit w fits) e) _ (same_listing _ _ _ _ _ c.price-price.ensures c.as-slice.ensures c.plan-of-plan.ensures) _ _ short kept)
+    listing_outgrown w _ _ is _ c.in_ok-at.at _ _ (c.in_ok-at.ensures.says (said w) fits.forms (week_changes_fit w fits) e) _ (same_listing _ _ _ _ _ c.price-price.ensures c.as_slice.ensures c.plan_of-plan.ensures) _ _ short kept)
 
 pub returns : goal.returns
 returns c w fits e is =
     let (put, within) = c.in_ok-len.ensures in
-    listed_behind w _ _ is _ c.in_ok-at.at _ _ (c.in_ok-at.ensures.says (said w) fits.forms (week_changes_fit w fits) e) _ (same_listing _ _ _ _ _ c.price-price.ensures c.as-slice.ensures c.plan-of-plan.ensures) _ _ put within
+    listed_behind w _ _ is _ c.in_ok-at.at _ _ (c.in_ok-at.ensures.says (said w) fits.forms (week_changes_fit w fits) e) _ (same_listing _ _ _ _ _ c.price-price.ensures c.as_slice.ensures c.plan_of-plan.ensures) _ _ put within

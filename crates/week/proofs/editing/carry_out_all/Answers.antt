@@ -6,8 +6,8 @@ use Rattle.week.proofs.editing.carry_out_all.Goals as goal
 pub loop-edit-init : goal.loop-edit-init
 loop-edit-init c = (omega arith, λ lines forms fits e. work_begins _ _ _ lines c.new-reader.result forms (c.new-reader.ensures.text ∙ e))
 
-pub reply-at-requires : goal.reply-at-requires
-reply-at-requires c = omega (arith, c.loop-edit.invariant.0, c.loop-edit.auto.out)
+pub reply_at-requires : goal.reply_at-requires
+reply_at-requires c = omega (arith, c.loop-edit.invariant.0, c.loop-edit.auto.out)
 
 pub returns-in_err-len : goal.returns-in_err-len
 returns-in_err-len c =
@@ -17,8 +17,8 @@ returns-in_err-len c =
       says = λ lines forms fits e.
           let w = c.loop-edit.invariant.1 lines forms fits e in
           let next = c.in-Some.ensures.says w.more w.forms w.left in
-          let proper = next_fits _ _ _ lines _ _ _ _ c.carry-out-answer.new.sheet _ w c.in-Some.edit next fits in
-          no_room _ _ _ lines _ _ _ _ c.carry-out-answer.new.sheet _ w c.in-Some.edit next c.carry-out-answer.result (c.carry-out-answer.ensures next.change next.proper proper next.says) _ c.reply-to.ensures (omega (arith, c.loop-edit.auto.out));
+          let proper = next_fits _ _ _ lines _ _ _ _ c.carry_out-answer.new.sheet _ w c.in-Some.edit next fits in
+          no_room _ _ _ lines _ _ _ _ c.carry_out-answer.new.sheet _ w c.in-Some.edit next c.carry_out-answer.result (c.carry_out-answer.ensures next.change next.proper proper next.says) _ c.reply_to.ensures (omega (arith, c.loop-edit.auto.out));
       within = tt;
     })
 
@@ -32,8 +32,8 @@ loop-edit-preserved c =
       λ lines forms fits e.
           let w = c.loop-edit.invariant.1 lines forms fits e in
           let next = c.in-Some.ensures.says w.more w.forms w.left in
-          let proper = next_fits _ _ _ lines _ _ _ _ c.carry-out-answer.new.sheet _ w c.in-Some.edit next fits in
-          works_on _ _ _ lines _ _ _ _ c.carry-out-answer.new.sheet _ w c.in-Some.edit next c.carry-out-answer.result (c.carry-out-answer.ensures next.change next.proper proper next.says) _ c.reply-to.ensures _ _ put,
+          let proper = next_fits _ _ _ lines _ _ _ _ c.carry_out-answer.new.sheet _ w c.in-Some.edit next fits in
+          works_on _ _ _ lines _ _ _ _ c.carry_out-answer.new.sheet _ w c.in-Some.edit next c.carry_out-answer.result (c.carry_out-answer.ensures next.change next.proper proper next.says) _ c.reply_to.ensures _ _ put,
     )
 
 pub returns : goal.returns

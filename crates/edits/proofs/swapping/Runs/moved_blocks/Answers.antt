@@ -7,7 +7,7 @@ use Rattle.sheet.proofs.RowLaws.{row_past}
 use Rattle.sheet.specs.Sheets.{outline}
 
 pub loop-c-preserved : goal.loop-c-preserved
-loop-c-preserved c = written_more _ _ _ c.loop-c.c _ c.loop-c-test.true c.loop-c.invariant c.moved-ends.ensures
+loop-c-preserved c = written_more _ _ _ c.loop-c.c _ c.loop-c-test.true c.loop-c.invariant c.moved_ends.ensures
 
 pub returns : goal.returns
 returns c =

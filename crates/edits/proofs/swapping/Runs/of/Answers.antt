@@ -6,12 +6,12 @@ use Rattle.sets.proofs.Held.{contents_fit}
 use Rattle.sheet.proofs.SheetRules.{sheet_rules}
 use Rattle.sheet.specs.Sheets.{outline}
 
-pub invariant-of-result : goal.invariant-of-result
-invariant-of-result c =
+pub invariant_of-result : goal.invariant_of-result
+invariant_of-result c =
     let rules = sheet_rules c.args.sheet.now in
     let parts = neighbours (outline c.args.sheet.now) rules _ _ _ _ _ c.if-k-eq0.false c.in_ok-first.ensures c.in_ok-last.ensures in
     let b = bounds (outline c.args.sheet.now) rules _ _ _ parts in
-    (b.left, (b.right, (omega (arith, b.size, contents_fit c.args.sheet.now.steps), tt)))
+    record { ahead = b.left; behind = b.right; room = omega (arith, b.size, contents_fit c.args.sheet.now.steps) }
 
 pub returns : goal.returns
 returns c = (

@@ -12,12 +12,13 @@ loop-word-preserved g c = (
   omega arith,
   below_more _ _
       (λ q l. let ne : q ≢ c.loop-word.word-index = omega arith in rw get_or-set_other (c.loop-word.invariant.2 q l))
-      (let l : c.loop-word.word-index < length c.loop-word.word-items = omega arith in rw (get_or-set_same, ← c.loop-word.invariant.1) c.low-ones.ensures),
+      (let l : c.loop-word.word-index < length c.loop-word.word-items = omega arith in rw (get_or-set_same, ← c.loop-word.invariant.1) c.low_ones.ensures),
 )
 
-pub invariant-of-result : goal.invariant-of-result
-invariant-of-result g c =
-    sound_ones c.loop-word.word-items c.loop-word.invariant.0 c.args.k (λ q l. c.loop-word.invariant.2 q (omega arith)) c.ranges.k.fits
+pub invariant_of-result : goal.invariant_of-result
+invariant_of-result g c =
+    let s = sound_ones c.loop-word.word-items c.loop-word.invariant.0 c.args.k (λ q l. c.loop-word.invariant.2 q (omega arith)) c.ranges.k.fits in
+    record { size = s.0; fits = s.1; usable = s.2 }
 
 pub returns : goal.returns
 returns g c = member_ones c.loop-word.word-items c.loop-word.invariant.0 c.args.k (λ q l. c.loop-word.invariant.2 q (omega arith))

@@ -7,4 +7,4 @@ within x p q e true none = λ i h. grind (arith, e i, none i, cases_Bool (q i))
 within x p q e false some = (some.0, grind (arith, e some.0, some.1, cases_Bool (p some.0)), grind (arith, e some.0, some.1, cases_Bool (q some.0)))
 
 pub returns : goal.returns
-returns g c = within _ _ _ c.minus.ensures _ c.is-empty.ensures
+returns g c = within _ _ _ c.minus.ensures _ c.is_empty.ensures

@@ -1,9 +1,10 @@
 use Rattle.sets.proofs.Kept.{wordwise-and, member_merged, sound_merged}
 use Rattle.sets.proofs.bits.BitSet.intersection.Goals as goal
 
-pub invariant-of-result : goal.invariant-of-result
-invariant-of-result g c =
-    sound_merged wordwise-and c.args.self.now c.args.other.now c.loop-i.words c.loop-i.i c.loop-i-test.false c.loop-i.invariant
+pub invariant_of-result : goal.invariant_of-result
+invariant_of-result g c =
+    let s = sound_merged wordwise-and c.args.self.now c.args.other.now c.loop-i.words c.loop-i.i c.loop-i-test.false c.loop-i.invariant in
+    record { size = s.0; fits = s.1; usable = s.2 }
 
 pub returns : goal.returns
 returns g c =

@@ -2,11 +2,11 @@ use Rattle.std.proofs.Common.{arith}
 use Rattle.sets.proofs.Kept.{word_usable, member_lowest, member_none}
 use Rattle.sets.proofs.bits.BitSet.lowest.Goals as goal
 
-pub overflow-mul-result : goal.overflow-mul-result
-overflow-mul-result g c = omega (arith, word_usable c.args.self.now c.loop-i.i (omega arith))
+pub overflow_mul-result : goal.overflow_mul-result
+overflow_mul-result g c = omega (arith, word_usable c.args.self.now c.loop-i.i (omega arith))
 
-pub overflow-add-result : goal.overflow-add-result
-overflow-add-result g c =
+pub overflow_add-result : goal.overflow_add-result
+overflow_add-result g c =
     omega (arith, c.args.self.now.usable _ (member_lowest c.args.self.now c.loop-i.i (omega arith) c.loop-i.invariant).0)
 
 pub returns-then-word-ne0 : goal.returns-then-word-ne0

@@ -6,4 +6,4 @@ turned x y e true none = λ i. sym (e i) ∙ none i
 turned x y e false some = (some.0, sym (e some.0) ∙ some.1)
 
 pub returns : goal.returns
-returns g c = turned _ _ c.intersection.ensures _ c.is-empty.ensures
+returns g c = turned _ _ c.intersection.ensures _ c.is_empty.ensures

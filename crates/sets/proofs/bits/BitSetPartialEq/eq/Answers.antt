@@ -12,4 +12,8 @@ returns g c =
     let d = slice_eq-Decides Decides-eqb _ _ _ c.eq.ensures in
     let same : c.eq.result ≡ true → (i : ℕ) → member a.words i ≡ member b.words i = λ e i. ap (λ ws. member ws i) (d.0 e) in
     let yes' : a ≡ b → c.eq.result ≡ true = λ e. d.1 (ap (λ s. s.words) e) in
-    (((λ e. sets_same a b (same e)), yes'), (same, λ s. yes' (sets_same a b s)))
+    record {
+      value = c.eq.ensures;
+      same = (λ e. sets_same a b (same e), yes');
+      members = (same, λ s. yes' (sets_same a b s));
+    }

@@ -11,4 +11,4 @@ lent xs i (Some x) h = ap Some (h.1 x.now) ∙ sym (slice_get-get_or xs i x.now 
 
 pub returns : goal.returns
 returns g c =
-    c.copied.ensures ∙ lent c.as-slice.result.now c.args.i c.get.result c.get.ensures.finds.3 ∙ ap (λ xs. slice_get xs c.args.i) c.as-slice.ensures
+    c.copied.ensures ∙ lent c.as_slice.result.now c.args.i c.get.result c.get.ensures.lookup.3 ∙ ap (λ xs. slice_get xs c.args.i) c.as_slice.ensures

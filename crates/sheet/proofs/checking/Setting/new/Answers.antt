@@ -31,14 +31,14 @@ loop-p-preserved c =
           (λ f. cc (c.minus.ensures f, c.step-action.ensures.deletes f, c.step-action.ensures.adds f)),
     )
 
-pub invariant-of-result : goal.invariant-of-result
-invariant-of-result c =
+pub invariant_of-result : goal.invariant_of-result
+invariant_of-result c =
     let e = effects c.args.task.now c.args.sheet.now in
     let numbers = actions c.args.sheet.now in
     let few = contents_fit c.args.sheet.now.steps in
     let (_, _, added, taken) = c.loop-p.invariant in
     let past : (part : Action → BitSet 1) (q f : ℕ) → c.loop-p.p ≤ q → has_fact part (action_at c.args.task.now numbers q) f ≡ false =
-    λ part q f l. nothing_past part c.args.task.now numbers q (omega (arith, c.loop-p-test.false)) f in (
-      table_all e.adds c.loop-p.adds c.loop-p.p added (past (λ a. a.adds)),
-      (table_all (takes e) c.loop-p.takes c.loop-p.p taken (λ q f l. and_left _ _ (past (λ a. a.deletes) q f l)), tt),
-    )
+    λ part q f l. nothing_past part c.args.task.now numbers q (omega (arith, c.loop-p-test.false)) f in record {
+      added = table_all e.adds c.loop-p.adds c.loop-p.p added (past (λ a. a.adds));
+      taken = table_all (takes e) c.loop-p.takes c.loop-p.p taken (λ q f l. and_left _ _ (past (λ a. a.deletes) q f l));
+    }

@@ -7,7 +7,7 @@ use Rattle.sets.specs.declared.bits.BitSet.{BitSet}
 use Rattle.sheet.proofs.MaskLaws.{chosen_more, leads_end, leads_tied, tied_within}
 use Rattle.sheet.proofs.SheetRules.{sheet_rules}
 use Rattle.sheet.proofs.sheet.Sheet.ahead.Goals as goal
-use Rattle.sheet.proofs.sheet.Sheet.ahead.Goals.{then-is-tied, else-is-tied}
+use Rattle.sheet.proofs.sheet.Sheet.ahead.Goals.{then-is_tied, else-is_tied}
 use Rattle.sheet.specs.Sheets.{outline}
 
 pub returns-then-p-n : goal.returns-then-p-n
@@ -24,14 +24,14 @@ pub loop-x-preserved : goal.loop-x-preserved
 loop-x-preserved c =
     let few = contents_fit c.args.self.now.steps in
     let x = c.loop-x.x in
-    chosen_more (λ y. (outline c.args.self.now).tied y c.args.p) (member c.loop-x.ahead.words) (member c.if-is-tied.ahead.words) x c.loop-x.invariant
-    (λ y. elim c.if-is-tied.branch [
-      | then-is-tied w ↦
+    chosen_more (λ y. (outline c.args.self.now).tied y c.args.p) (member c.loop-x.ahead.words) (member c.if-is_tied.ahead.words) x c.loop-x.invariant
+    (λ y. elim c.if-is_tied.branch [
+      | then-is_tied w ↦
           let put : ltb x 128 ≡ true = lt-ltb x 128 (omega (arith, c.loop-x-test.true)) in
-          ap (λ (set : BitSet 2). member set.words y) w.ahead-is ∙ cc (w.insert.ensures.members y, w.if-is-tied.ensures)
-      | else-is-tied w ↦
+          ap (λ (set : BitSet 2). member set.words y) w.ahead-is ∙ cc (w.insert.ensures.members y, w.if-is_tied.ensures)
+      | else-is_tied w ↦
           let kept = ap (λ (set : BitSet 2). member set.words y) w.ahead-is in
-          let t = w.if-is-tied.ensures in
+          let t = w.if-is_tied.ensures in
           grind (arith, cases_Bool (member c.loop-x.ahead.words y), cases_Bool (eqb y x))
     ])
 

@@ -8,4 +8,4 @@ use Rattle.sheet.specs.Sheets.{outline}
 pub returns : goal.returns
 returns c x =
     let s = outline c.args.self.now in
-    cc (c.intersection.ensures x, c.union-behind.ensures x, c.union.ensures x, c.row.ensures x, c.part-mask.ensures x, c.part-mask-2.ensures x, forced_within s (sheet_rules c.args.self.now) c.args.d x (together s x c.args.p c.args.d) (together s x c.args.d c.args.p) (member c.args.ahead.now.words x))
+    cc (c.intersection.ensures x, c.union-behind.ensures x, c.union.ensures x, c.row.ensures x, c.part_mask.ensures x, c.part_mask-2.ensures x, forced_within s (sheet_rules c.args.self.now) c.args.d x (together s x c.args.p c.args.d) (together s x c.args.d c.args.p) (member c.args.ahead.now.words x))

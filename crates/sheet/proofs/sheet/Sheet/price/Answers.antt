@@ -5,8 +5,8 @@ use Rattle.sets.proofs.Held.{contents_fit}
 use Rattle.sheet.proofs.sheet.Sheet.price.Goals as goal
 use Rattle.sheet.specs.Sheets.{actions}
 
-pub overflow-add-sum : goal.overflow-add-sum
-overflow-add-sum g c =
+pub overflow_add-sum : goal.overflow_add-sum
+overflow_add-sum g c =
     let law = g.T.Tariff.lawful c.args.tariff.now in
     let few : c.loop-number.number-index ≤ 128 = omega (arith, ap length c.actions-number-items.ensures, contents_fit c.args.self.now.steps) in
     let so_far = mul-le-mul few law.fits in

@@ -18,11 +18,11 @@ loop-i-preserved c =
           (λ j. let a = c.below-positions.ensures j in let b = c.below.ensures j in c.minus.ensures j ∙ grind (arith, nat_tests)),
     )
 
-pub invariant-of-result : goal.invariant-of-result
-invariant-of-result c =
+pub invariant_of-result : goal.invariant_of-result
+invariant_of-result c =
     let ties = laid_ties c.loop-i.behind (length (contents c.args.steps)) c.loop-i.i (omega (arith, c.loop-i-test.false)) c.loop-i.invariant.1 in
     let none = row_empty 128 c.empty.result c.empty.ensures in
-    (c.requires, (c.loop-i.invariant.0, (refl, (∣ laid_rules c.args.steps c.loop-i.behind (replicate 128 c.empty.result) ties none ∣₁, tt))))
+    record { numbers = c.requires; ties = c.loop-i.invariant.0; groups = refl; rules = ∣ laid_rules c.args.steps c.loop-i.behind (replicate 128 c.empty.result) ties none ∣₁ }
 
 pub returns : goal.returns
 returns c =

@@ -17,8 +17,8 @@ exact c =
     counted (member c.intersection.result.words) (touched c.args.self.now.marked c.in-Some.a) 64 c.count.result (omega arith)
     (λ f. cc (c.intersection.ensures f, c.union.ensures f)) c.count.ensures
 
-pub overflow-cast-result : goal.overflow-cast-result
-overflow-cast-result c = let small = (exact c).1 in search rules
+pub overflow_cast-result : goal.overflow_cast-result
+overflow_cast-result c = let small = (exact c).1 in search rules
 
 pub returns-in-Some : goal.returns-in-Some
 returns-in-Some c =
