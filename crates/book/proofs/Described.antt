@@ -1,5 +1,5 @@
 -- Actions that a book describes, one for one.
-use Rattle.std.proofs.Common.{◌≡◌, ℕ, suc, List, [], ◌∷◌, ◌++◌, length, refl, ap}
+use Rattle.std.proofs.Common.{◌≡◌, suc, List, [], ◌∷◌, ◌++◌, length, refl, ap}
 use Rattle.task.specs.declared.actions.Action.{Action}
 use Rattle.records.specs.Lines.{Deed}
 use Rattle.book.specs.Tasks.{Describes, DescribeAll}

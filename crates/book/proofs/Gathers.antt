@@ -3,7 +3,7 @@ use Rattle.std.proofs.Common.{◌≡◌, ℕ, List, [], ◌∷◌, ◌++◌, map
 use Rattle.book.specs.Joining.{with_line}
 use Rattle.orders.specs.Changes.{Change}
 use Rattle.records.specs.Lines.{Deed, Line}
-use Rattle.records.specs.Lines.Line.{fact, act, start, goal, step, edit}
+use Rattle.records.specs.Lines.Line.{fact, act, step, edit}
 use Rattle.book.specs.Weeks.{Week, no_week, said}
 
 abbrev pub gathered : List Line → Week

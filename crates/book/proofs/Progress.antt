@@ -1,5 +1,5 @@
 -- A book that is loaded line by line: what holds after each line, and what each way out shows.
-use Rattle.std.proofs.Common.{◌≡◌, ℕ, ◌+◌, ◌<◌, ◌≤◌, ◌⊎◌, List, [], ◌∷◌, ◌++◌, length, Some, None, Ok, Err, fold, sym, refl, ap, ◌∙◌, subst, inl, inr, append_assoc, append-nil, arith}
+use Rattle.std.proofs.Common.{◌≡◌, ℕ, ◌+◌, ◌<◌, ◌≤◌, ◌⊎◌, List, [], ◌∷◌, ◌++◌, length, Some, None, Ok, Err, sym, refl, ap, ◌∙◌, inl, inr, append_assoc, append-nil, arith}
 use Rattle.std.proofs.lemmas.List.{length_push}
 use Rattle.std.proofs.lemmas.List.Sums.{fold_push}
 use Rattle.book.specs.Joining.{Holds, Joins, with_line}
@@ -29,6 +29,10 @@ pub record Progress (book : List ℕ) (reader : Reader) (loader : Loader) : Type
   pub sound : Sound front
   pub holds : Holds (gathered front) loader
   pub at : rank_of loader.stage ≡ stage_after 0 front
+
+-- the same fault, at the line's number by another name
+pub at_number : {Bad : List Line → List ℕ → Type 0} {book : List ℕ} {line : ℕ} (number : ℕ) → FirstBad Bad book line → number ≡ line → FirstBad Bad book number
+at_number number bad e = rw e bad
 
 pub begin : (book : List ℕ) (reader : Reader) (loader : Loader) → unread reader ≡ book → reader.lines ≡ 0 → Holds no_week loader → rank_of loader.stage ≡ 0 → Progress book reader loader
 begin book reader loader u z h s = record { front = []; cut = sym u; count = z; sound = (tt, tt); holds = h; at = s }

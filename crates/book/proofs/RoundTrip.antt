@@ -1,6 +1,6 @@
 -- The text of a week that fits is not refused, and no other week has it.
 use Rattle.std.proofs.Common.{◌≡◌, ℕ, ◌⊎◌, List, [], ◌∷◌, ◌++◌, length, Ok, Err, Result, sym, refl, ap, ◌∙◌, subst, ⊎_elim, append_assoc, append-nil, arith, length-append}
-use Rattle.std.specs.List.{AllByRecursion as All}
+use Rattle.std.specs.List.{AllByRecursion}
 use Rattle.sets.specs.declared.list.ArrayVec.{ArrayVec}
 use Rattle.task.specs.declared.tasks.Task.{Task}
 use Rattle.records.specs.Lines.{Line, Proper, text}
@@ -15,7 +15,7 @@ use Rattle.records.proofs.Spelling.{text_lacks}
 use Rattle.book.proofs.Turns.{all_parts, begins_sound}
 
 -- what begins with the text of lines has these lines at its front
-same_front : (front ls : List Line) (rest : List ℕ) → All Proper front → All Proper ls → bytes front ++ rest ≡ bytes ls → (more : List Line) × (ls ≡ front ++ more) × (rest ≡ bytes more)
+same_front : (front ls : List Line) (rest : List ℕ) → AllByRecursion Proper front → AllByRecursion Proper ls → bytes front ++ rest ≡ bytes ls → (more : List Line) × (ls ≡ front ++ more) × (rest ≡ bytes more)
 same_front [] ls rest p q e = (ls, refl, e)
 same_front (f ∷ front) [] rest p q e =
     absurd (omega (arith, ap length e, length-append (text f ++ 10 ∷ bytes front) rest, length-append (text f) (10 ∷ bytes front)))
@@ -40,7 +40,7 @@ module _ (w : Week) (fits : Fits w) (book : List ℕ) (is : book ≡ bytes (said
   week_rest : {Bad : List Line → List ℕ → Type 0} {line : ℕ} (b : FirstBad Bad book line) → (more : List Line) × (said w ≡ b.front ++ more) × (b.rest ≡ bytes more)
   week_rest b = same_front b.front (said w) b.rest (begins_sound b.front b.begins).1 fits.forms (sym b.cut ∙ is)
 
-  rest_proper : (front more : List Line) → said w ≡ front ++ more → All Proper more
+  rest_proper : (front more : List Line) → said w ≡ front ++ more → AllByRecursion Proper more
   rest_proper front more e = (all_parts Proper front more (rw e at fits.forms)).1
 
   no_form : {line : ℕ} → FirstBad NoForm book line → ⊥

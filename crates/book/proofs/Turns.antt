@@ -1,6 +1,6 @@
 -- The rule of sequence and bounds, line by line: which line may follow those before it.
 use Rattle.std.proofs.Common.{◌≡◌, ℕ, ◌+◌, ◌<◌, ◌≤◌, List, [], ◌∷◌, ◌++◌, map, length, fold, refl, ap, subst, ⊎_elim, arith}
-use Rattle.std.specs.List.{AllByRecursion as All}
+use Rattle.std.specs.List.{AllByRecursion}
 use Rattle.std.proofs.ByRecursion.{All-append}
 use Rattle.std.proofs.lemmas.List.{length_push}
 use Rattle.std.proofs.lemmas.Bool.{cases_lt, cases_eq}
@@ -8,7 +8,7 @@ use Rattle.book.specs.Joining.{stage, May, with_line}
 use Rattle.orders.specs.Changes.{Change}
 use Rattle.records.specs.Lines.{Deed, Line, Proper, IsFactSet}
 use Rattle.records.specs.Lines.Line.{fact, act, start, goal, step, edit}
-use Rattle.book.specs.Weeks.{Week, no_week, said, Known, DeedFits, ChangeFits, Fits, Whole, Begins}
+use Rattle.book.specs.Weeks.{Week, no_week, said, Known, DeedFits, ChangeFits, Whole, Begins}
 use Rattle.book.proofs.Gathers.{gathered, with_facts, with_acts}
 
 -- where the lines lead
@@ -26,7 +26,7 @@ abbrev pub Ends : ℕ → List Line → Type 0
 Ends s ls = 3 ≤ stage_after s ls
 
 -- from each stage on, lines that follow to the end are the rest of a book
-edits_rest : (s : ℕ) (w : Week) (ls : List Line) → s ≡ 4 → Follow s w ls → (cs : List Change) × (map edit cs ≡ ls) × All ChangeFits cs
+edits_rest : (s : ℕ) (w : Week) (ls : List Line) → s ≡ 4 → Follow s w ls → (cs : List Change) × (map edit cs ≡ ls) × AllByRecursion ChangeFits cs
 edits_rest s w [] e f = ([], refl, tt)
 edits_rest s w (fact x ∷ ls) e f = absurd (omega arith)
 edits_rest s w (act d ∷ ls) e f = absurd (omega arith)
@@ -42,8 +42,8 @@ record StepsRest (m k : ℕ) (ls : List Line) : Type 0 where
   changes : List Change
   are : map step steps ++ map edit changes ≡ ls
   few : k + length steps ≤ 128
-  known : All (λ a. a < m) steps
-  change : All ChangeFits changes
+  known : AllByRecursion (λ a. a < m) steps
+  change : AllByRecursion ChangeFits changes
 
 steps_rest : (s k : ℕ) (w : Week) (ls : List Line) → s ≡ 3 → length w.steps ≡ k → k ≤ 128 → Follow s w ls → StepsRest (length w.deeds) k ls
 steps_rest s k w [] e c b f = record { steps = []; changes = []; are = refl; few = omega arith; known = tt; change = tt }
@@ -65,7 +65,7 @@ record ActsRest (n m : ℕ) (ls : List Line) : Type 0 where
   rest : List Line
   are : map act deeds ++ (start starts ∷ goal goals ∷ rest) ≡ ls
   few : m + length deeds ≤ 128
-  known : All (DeedFits n) deeds
+  known : AllByRecursion (DeedFits n) deeds
   start_known : Known n starts
   goal_known : Known n goals
   count : ℕ
@@ -121,7 +121,7 @@ facts_rest s n w (edit x ∷ ls) e c b y z f d = absurd (omega arith)
 
 -- a book from nothing: each line is of its form, and may follow those before it
 abbrev pub Sound : List Line → Type 0
-Sound ls = Follow 0 no_week ls × All Proper ls
+Sound ls = Follow 0 no_week ls × AllByRecursion Proper ls
 
 pub whole_from_sound : (ls : List Line) → Sound ls → Ends 0 ls → Whole ls
 whole_from_sound ls f d =
@@ -135,16 +135,16 @@ whole_from_sound ls f d =
     (w, record { forms = rw e f.1; facts = omega arith; deeds = omega arith; steps = omega arith; deed = a.known; starts = a.start_known; goals = a.goal_known; step = t.known; change = t.change }, e)
 
 -- and the other way: the lines of a book follow to its end
-follow_edits : (s : ℕ) (w : Week) (cs : List Change) → 3 ≤ s → All ChangeFits cs → Follow s w (map edit cs)
+follow_edits : (s : ℕ) (w : Week) (cs : List Change) → 3 ≤ s → AllByRecursion ChangeFits cs → Follow s w (map edit cs)
 follow_edits s w [] b a = tt
 follow_edits s w (c ∷ cs) b a = ((b, a.0), follow_edits 4 (with_line w (edit c)) cs (omega arith) a.1)
 
-follow_steps : (w : Week) (xs : List ℕ) (cs : List Change) → length w.steps + length xs ≤ 128 → All (λ a. a < length w.deeds) xs → All ChangeFits cs → Follow 3 w (map step xs ++ map edit cs)
+follow_steps : (w : Week) (xs : List ℕ) (cs : List Change) → length w.steps + length xs ≤ 128 → AllByRecursion (λ a. a < length w.deeds) xs → AllByRecursion ChangeFits cs → Follow 3 w (map step xs ++ map edit cs)
 follow_steps w [] cs b known fits = follow_edits 3 w cs (omega arith) fits
 follow_steps w (a ∷ xs) cs b known fits =
     ((refl, omega arith, known.0), follow_steps (with_line w (step a)) xs cs (omega (arith, length_push w.steps a)) known.1 fits)
 
-follow_acts : (s : ℕ) (w : Week) (ds : List Deed) (rest : List Line) → s ≤ 1 → length w.deeds + length ds ≤ 128 → All (DeedFits (length w.facts)) ds
+follow_acts : (s : ℕ) (w : Week) (ds : List Deed) (rest : List Line) → s ≤ 1 → length w.deeds + length ds ≤ 128 → AllByRecursion (DeedFits (length w.facts)) ds
     → ((t : ℕ) → t ≤ 1 → Follow t (fold with_line w (map act ds)) rest) → Follow s w (map act ds ++ rest)
 follow_acts s w [] rest b few fits go = go s b
 follow_acts s w (d ∷ ds) rest b few fits go =
@@ -181,7 +181,7 @@ follow_parts : (s : ℕ) (w : Week) (xs ys : List Line) → Follow s w (xs ++ ys
 follow_parts s w [] ys f = (tt, f)
 follow_parts s w (x ∷ xs) ys f = let r = follow_parts (stage x) (with_line w x) xs ys f.1 in ((f.0, r.0), r.1)
 
-pub all_parts : {X : Type 0} (P : X → Type 0) (xs ys : List X) → All P (xs ++ ys) → All P xs × All P ys
+pub all_parts : {X : Type 0} (P : X → Type 0) (xs ys : List X) → AllByRecursion P (xs ++ ys) → AllByRecursion P xs × AllByRecursion P ys
 all_parts P [] ys a = (tt, a)
 all_parts P (x ∷ xs) ys a = let r = all_parts P xs ys a.1 in ((a.0, r.0), r.1)
 
@@ -191,7 +191,7 @@ sound_push ls l f p m = (follow_append 0 no_week ls (l ∷ []) f.0 (m, tt), All-
 -- every book so far can be brought to its end
 pub sound_begins : (ls : List Line) → Sound ls → Begins ls
 sound_begins ls f =
-    let go : (more : List Line) → Follow (stage_after 0 ls) (gathered ls) more → All Proper more → 3 ≤ stage_after (stage_after 0 ls) more → Begins ls =
+    let go : (more : List Line) → Follow (stage_after 0 ls) (gathered ls) more → AllByRecursion Proper more → 3 ≤ stage_after (stage_after 0 ls) more → Begins ls =
     λ more g p e. (more, whole_from_sound (ls ++ more) (follow_append 0 no_week ls more f.0 g, All-append Proper ls more f.1 p) (rw (stage-append 0 ls more) e)) in
     let empty : IsFactSet [] = (tt, λ _ k h. absurd (omega arith)) in
     ⊎_elim

@@ -1,5 +1,5 @@
 -- The rule of sequence and bounds, one line after another: the loader's own measure. What load promises does not rest on it.
-use Rattle.std.specs.Prelude.{◌≡◌, ℕ, ◌<◌, ◌≤◌, List, [], ◌∷◌, ◌++◌, length, Result, MatchResult}
+use Rattle.std.specs.Prelude.{◌≡◌, ℕ, ◌<◌, ◌≤◌, [], ◌∷◌, ◌++◌, length, Result, MatchResult}
 use Rattle.sets.specs.Contents.{contents}
 use Rattle.records.specs.Lines.{Line}
 use Rattle.records.specs.Lines.Line.{fact, act, start, goal, step, edit}

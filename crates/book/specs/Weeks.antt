@@ -1,6 +1,6 @@
 -- What a whole book says: its lines in their sequence, and the bounds between them.
 use Rattle.std.specs.Prelude.{◌≡◌, ℕ, ◌<◌, ◌≤◌, List, [], ◌∷◌, ◌++◌, map, length}
-use Rattle.std.specs.List.{AllByRecursion as All}
+use Rattle.std.specs.List.{AllByRecursion}
 use Rattle.orders.specs.Changes.{Change}
 use Rattle.records.specs.Lines.{Deed, Line, Proper, text}
 use Rattle.orders.specs.Changes.Change.{swap, group, ungroup, loosen, replace}
@@ -30,7 +30,7 @@ bytes (l ∷ ls) = text l ++ 10 ∷ bytes ls
 
 -- a set that names no fact but the first n
 abbrev pub Known : ℕ → List ℕ → Type 0
-Known n set = All (λ f. f < n) set
+Known n set = AllByRecursion (λ f. f < n) set
 
 pub record DeedFits (n : ℕ) (d : Deed) : Type 0 where
   pub price : d.price ≤ 1000000
@@ -47,15 +47,15 @@ ChangeFits (replace a b list) = length list ≤ 128
 
 -- the bounds of a book: every line is of its form, and names only what the book has
 pub record Fits (w : Week) : Type 0 where
-  pub forms : All Proper (said w)
+  pub forms : AllByRecursion Proper (said w)
   pub facts : length w.facts ≤ 64
   pub deeds : length w.deeds ≤ 128
   pub steps : length w.steps ≤ 128
-  pub deed : All (DeedFits (length w.facts)) w.deeds
+  pub deed : AllByRecursion (DeedFits (length w.facts)) w.deeds
   pub starts : Known (length w.facts) w.starts
   pub goals : Known (length w.facts) w.goals
-  pub step : All (λ a. a < length w.deeds) w.steps
-  pub change : All ChangeFits w.changes
+  pub step : AllByRecursion (λ a. a < length w.deeds) w.steps
+  pub change : AllByRecursion ChangeFits w.changes
 
 -- these lines are a whole book
 abbrev pub Whole : List Line → Type 0

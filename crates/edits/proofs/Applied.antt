@@ -1,5 +1,5 @@
 -- What holds of all five edits follows from the rule of each.
-use Rattle.std.proofs.Common.{◌≡◌, ℕ, ◌+◌, ◌<◌, List, length, get_or, Ok, Err, sum_by, Result, sym, refl, ap, ◌∙◌, subst, arith, MatchResult}
+use Rattle.std.proofs.Common.{◌≡◌, ℕ, ◌+◌, List, length, Ok, Err, sum_by, Result, sym, ap, subst, arith}
 use Rattle.edits.proofs.SwapLaws.{comes_lt}
 use Rattle.edits.proofs.SwapLists.{same_get_or}
 use Rattle.shaping.specs.Answers.{Groups, IsChecked, Loosens, Ungroups}

@@ -11,8 +11,8 @@ use Rattle.edits.proofs.SwapLaws.{comes_lt, comes_past}
 use Rattle.orders.specs.Edits.{comes}
 
 -- the sum does not depend on the order of two neighbouring runs
-sum_by-turned : {X : Type 0} (f : X → ℕ) (p q r s : List X) → sum_by f (p ++ (r ++ (q ++ s))) ≡ sum_by f (p ++ (q ++ (r ++ s)))
-sum_by-turned f p q r s = simp (sum_by-append) (omega arith)
+sum_by_turned : {X : Type 0} (f : X → ℕ) (p q r s : List X) → sum_by f (p ++ (r ++ (q ++ s))) ≡ sum_by f (p ++ (q ++ (r ++ s)))
+sum_by_turned f p q r s = simp (sum_by-append) (omega arith)
 
 pub same_slice_get : (xs ys : List ℕ) → ((i : ℕ) → slice_get xs i ≡ slice_get ys i) → xs ≡ ys
 same_slice_get [] [] h = refl
@@ -62,7 +62,7 @@ module _ (xs : List ℕ) (a k b : ℕ) (left : a < k) (right : k ≤ b) (size : 
     same_length = ap length is_turned ∙ length-turned
 
     pub same_sum : (f : ℕ → ℕ) → sum_by f ys ≡ sum_by f xs
-    same_sum f = ap (sum_by f) is_turned ∙ sum_by-turned f (take a xs) (between a k xs) (between k (suc b) xs) (drop (suc b) xs) ∙ ap (sum_by f) parted
+    same_sum f = ap (sum_by f) is_turned ∙ sum_by_turned f (take a xs) (between a k xs) (between k (suc b) xs) (drop (suc b) xs) ∙ ap (sum_by f) parted
 
   -- the list that was made place by place
   pub slice_get-made : (ys : List ℕ) (n : ℕ) → n ≡ length xs → ys ≡ map (λ y. get_or xs (comes a k b y) 0) (range_with_len 0 n) → (x : ℕ) → slice_get ys x ≡ slice_get xs (comes a k b x)

@@ -1,11 +1,10 @@
 -- Each line has one text, and each text at most one line: what a line says is known by its bytes.
-use Rattle.std.proofs.Common.{◌≡◌, ℕ, List, [], ◌∷◌, ◌++◌, length, decimal, sym, refl, ap, ◌∙◌, subst, append_assoc, arith, length-append}
-use Rattle.std.specs.List.{AllByRecursion as All}
+use Rattle.std.proofs.Common.{◌≡◌, ℕ, List, decimal, sym, refl, ap, ◌∙◌, subst, arith}
+use Rattle.std.specs.List.{AllByRecursion}
 use Rattle.text.specs.Fields.{Small, commas}
 use Rattle.text.proofs.Cuts.{same_cut}
 use Rattle.text.proofs.Lists.{same_list}
 use Rattle.text.proofs.Numerals.{same_number}
-use Rattle.orders.specs.Changes.{Change}
 use Rattle.records.specs.Lines.{Deed, IsFactSet, Line, Proper, fields, text, word}
 use Rattle.orders.specs.Changes.Change.{swap, group, ungroup, loosen, replace}
 use Rattle.records.specs.Lines.Line.{fact, act, start, goal, step, edit}
@@ -14,7 +13,7 @@ use Rattle.records.specs.Words.{spelled}
 use Rattle.records.specs.declared.word.Word.{Word}
 use Rattle.records.specs.declared.word.Word.TheVariants.{Fact, Act, Start, Goal, Step, Swap, Group, Ungroup, Loosen, Replace}
 use Rattle.records.proofs.FirstField.{past_name, past_number, past_set}
-use Rattle.records.proofs.Spelling.{same_word, text_lacks, word_lacks}
+use Rattle.records.proofs.Spelling.{same_word, word_lacks}
 
 -- what stands behind each word, and the line that it makes
 abbrev Payload : Word → Type 0
@@ -56,7 +55,7 @@ taken_apart (edit (replace a b list)) = ((a, b, list), refl)
 same_decimal : (a b : ℕ) → Small a → Small b → decimal a ≡ decimal b → a ≡ b
 same_decimal a b s t e = same_number (decimal a) a b (s, refl) (t, e)
 
-same_commas : (ms ns : List ℕ) → All Small ms → All Small ns → commas ms ≡ commas ns → ms ≡ ns
+same_commas : (ms ns : List ℕ) → AllByRecursion Small ms → AllByRecursion Small ns → commas ms ≡ commas ns → ms ≡ ns
 same_commas ms ns s t e = same_list (commas ms) ms ns (s, refl) (t, e)
 
 same_pair : (a b c d : ℕ) → Small a → Small b → Small c → Small d → decimal a · decimal b ≡ decimal c · decimal d → (a ≡ c) × (b ≡ d)

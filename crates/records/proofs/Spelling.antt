@@ -1,6 +1,6 @@
 -- Each word is known by its bytes, and each line's text is one alone.
-use Rattle.std.proofs.Common.{◌≡◌, ℕ, ◌+◌, ◌*◌, ◌<◌, cond, eqb, ◌≢◌, List, ◌∷◌, ◌++◌, length, get_or, decimal, sym, refl, ap, ◌∙◌, arith}
-use Rattle.std.specs.List.{AllByRecursion as All}
+use Rattle.std.proofs.Common.{◌≡◌, ℕ, ◌<◌, cond, eqb, ◌≢◌, List, ◌∷◌, length, get_or, decimal, sym, refl, ap, ◌∙◌, arith}
+use Rattle.std.specs.List.{AllByRecursion}
 use Rattle.std.proofs.ByRecursion.{All-append, All-weaker}
 use Rattle.text.specs.Fields.{Lacks, Small, commas}
 use Rattle.text.proofs.Lists.{list_lacks}
@@ -15,7 +15,7 @@ use Rattle.records.specs.declared.word.Word.{Word}
 use Rattle.records.specs.declared.word.Word.TheVariants.{Fact, Act, Start, Goal, Step, Swap, Group, Ungroup, Loosen, Replace}
 
 -- a word's bytes are letters
-letters : (w : Word) → All (λ b. 96 < b) (spelled w)
+letters : (w : Word) → AllByRecursion (λ b. 96 < b) (spelled w)
 letters Fact = omega arith
 letters Act = omega arith
 letters Start = omega arith
@@ -57,7 +57,7 @@ tabbed_lacks a b p q = All-append _ a (9 ∷ b) p (omega arith, q)
 number_line : (n : ℕ) → Small n → Lacks 10 (decimal n)
 number_line n s = number_lacks 10 n (omega arith) s
 
-list_line : (ns : List ℕ) → All Small ns → Lacks 10 (commas ns)
+list_line : (ns : List ℕ) → AllByRecursion Small ns → Lacks 10 (commas ns)
 list_line ns s = list_lacks 10 ns (λ mark. omega arith) s
 
 pair_line : (a b : ℕ) → Small a → Small b → Lacks 10 (decimal a · decimal b)

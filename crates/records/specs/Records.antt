@@ -2,7 +2,7 @@
 use Rattle.std.specs.Prelude.{◌≡◌, ℕ, List}
 use Rattle.text.specs.Fields.{commas}
 use Rattle.orders.specs.Changes.{Change}
-use Rattle.records.specs.Lines.{Deed, Line, Proper, text}
+use Rattle.records.specs.Lines.{Deed, Line}
 use Rattle.orders.specs.Changes.Change.{swap, group, ungroup, loosen, replace}
 use Rattle.records.specs.Lines.Line.{fact, act, start, goal, step, edit}
 use Rattle.records.specs.declared.record.Act.{Act as ActPart}

@@ -1,7 +1,7 @@
 // A line is read as the record whose text it is, or refused because no record has that text.
 ghost use Rattle.std.specs.Prelude.{◌≡◌, ℕ, List, decimal, MatchResult, ◌≢◌};
 ghost use Rattle.text.specs.Fields.{Small, commas};
-ghost use Rattle.records.specs.Lines.{Deed, IsActionList, ProperDeed, deed_text, Line, Proper, word as word_of, fields as fields-of, text as text_of};
+ghost use Rattle.records.specs.Lines.{Deed, IsActionList, ProperDeed, deed_text, Line, Proper, word as word_of, fields as fields_of, text as text_of};
 ghost use Rattle.records.specs.Records.{ActSays, Says};
 ghost use Rattle.records.specs.Tabs.{◌·◌};
 
@@ -52,8 +52,8 @@ fn offer(bytes: &[u8]) -> Result<(u32, u32, &[u8]), FieldFault>
 // The record of a line that begins with `word`, by the fields behind it.
 fn record_of(word: Word, fields: &[u8]) -> Result<Record<'_>, FieldFault>
     ensures { MatchResult result
-        (λ x. (l : Line) × Proper l × (word_of l ≡ word) × (fields.now ≡ fields-of l) × Says x l)
-        (λ _. (l : Line) → Proper l → word_of l ≡ word → fields.now ≢ fields-of l) }
+        (λ x. (l : Line) × Proper l × (word_of l ≡ word) × (fields.now ≡ fields_of l) × Says x l)
+        (λ _. (l : Line) → Proper l → word_of l ≡ word → fields.now ≢ fields_of l) }
 {
     match word {
         Word::Fact => Ok(Record::Fact(name(fields)?)),

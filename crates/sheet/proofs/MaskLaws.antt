@@ -1,10 +1,10 @@
 -- The positions that go into the check.
-use Rattle.std.proofs.Common.{◌≡◌, ℕ, ◌+◌, ◌<◌, ◌≤◌, Bool, true, false, not, ◌&&◌, ◌||◌, eqb, ltb, leb, ◌⊎◌, ap, ⊎_elim, arith}
+use Rattle.std.proofs.Common.{◌≡◌, ℕ, ◌+◌, ◌<◌, ◌≤◌, Bool, false, not, ◌&&◌, ◌||◌, eqb, ltb, ◌⊎◌, ap, ⊎_elim, arith}
 use Rattle.std.proofs.lemmas.Bool.{cases_Bool, cases_eq}
 use Rattle.std.proofs.lemmas.Bool.Decides.{nat_tests}
 use Rattle.orders.proofs.Below.{refuted}
 use Rattle.orders.proofs.Parts.{together_shared}
-use Rattle.orders.specs.Check.{forced, inside, leads, together}
+use Rattle.orders.specs.Check.{forced, leads, together}
 use Rattle.orders.specs.Sheets.{Outline, Rules}
 use Rattle.sheet.specs.Masks.{AreForced, IsPart}
 

@@ -1,5 +1,5 @@
 -- Every sheet keeps the rules. Its ghost field says so of a proposition, from which they come back since each can be decided.
-use Rattle.std.proofs.Common.{ℕ, ◌⊎◌, inl, inr, ⊎_elim}
+use Rattle.std.proofs.Common.{◌⊎◌, inl, inr, ⊎_elim}
 use mathlib.Core.Bool.{Bool-set}
 use mathlib.Core.HLevel.{⊥_prop}
 use mathlib.Core.Logic.{∥∥₁_elim}

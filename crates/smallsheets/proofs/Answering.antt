@@ -26,7 +26,7 @@ use Rattle.sheet.specs.declared.sheet.Sheet.{Sheet}
 use Rattle.task.specs.declared.tasks.Task.{Task}
 use Rattle.smallsheets.specs.Rows.{Answer, said}
 use Rattle.smallsheets.specs.Rows.Answer.{accepted, refused}
-use Rattle.smallsheets.proofs.Judging.{all_known, first_unknown_lem, if_good, if_known, is_good, is_wanting, judge, judge_passes, judge_refused}
+use Rattle.smallsheets.proofs.Judging.{all_known, if_good, if_known, is_good, is_wanting, judge, judge_passes, judge_refused, unknown_refused}
 use Rattle.smallsheets.proofs.Lowest.{lowest, lowest_some}
 use Rattle.smallsheets.proofs.Views.{Page, View, page_of, view_of}
 
@@ -39,8 +39,8 @@ abbrev in_order : Outline → ℕ → ℕ → Bool
 in_order s i j = ltb i j && ltb j s.size
 
 -- whether some block crosses the run a to b
-abbrev is_crossed_lem : Outline → ℕ → ℕ → Bool
-is_crossed_lem s a b = some_below s.size (λ c. some_below s.size (λ d. s.block c d && crosses a b c d))
+abbrev is_crossed : Outline → ℕ → ℕ → Bool
+is_crossed s a b = some_below s.size (λ c. some_below s.size (λ d. s.block c d && crosses a b c d))
 
 -- whether a position outside their parts is tied between i and j
 abbrev is_between : Outline → ℕ → ℕ → Bool
@@ -52,7 +52,7 @@ is_in_order s i j = Decides-and _ _ (Decides-ltb i j) (Decides-ltb j s.size)
 not_in_order : (s : Outline) (i j : ℕ) → NotInOrder s i j → in_order s i j ≡ false
 not_in_order s i j n = refuted _ (λ h. let o = (is_in_order s i j).0 h in omega (arith, n, o.0, o.1))
 
-uncrossed : (s : Outline) (a b : ℕ) → CanGroup s a b → is_crossed_lem s a b ≡ false
+uncrossed : (s : Outline) (a b : ℕ) → CanGroup s a b → is_crossed s a b ≡ false
 uncrossed s a b can = refuted _ (λ h.
     let c = (below_is (λ c. some_below s.size (λ d. s.block c d && crosses a b c d)) s.size).0 h in
     let d = (below_is (λ d. s.block c.0 d && crosses a b c.0 d) s.size).0 c.2 in
@@ -62,7 +62,7 @@ uncrossed s a b can = refuted _ (λ h.
     crossing : (a b c d : ℕ) → ((b < c) ⊎ (d < a)) ⊎ (((a ≤ c) × (d ≤ b)) ⊎ ((c ≤ a) × (b ≤ d))) → crosses a b c d ≡ true → ⊥
     crossing a b c d apart h = let z : ◌≡◌ {A = ℕ} 0 1 = grind (arith, nat_tests) in omega arith
 
-crossed : (s : Outline) → Rules s → (a b : ℕ) → Crossed s a b → is_crossed_lem s a b ≡ true
+crossed : (s : Outline) → Rules s → (a b : ℕ) → Crossed s a b → is_crossed s a b ≡ true
 crossed s rules a b (c, (d, h, k)) =
     let low = rules.proper c d h in
     (below_is (λ c. some_below s.size (λ d. s.block c d && crosses a b c d)) s.size).1
@@ -89,7 +89,7 @@ abbrev answer_swap : Outline → ℕ → Answer
 answer_swap s k = unless (ltb 0 k && ltb k s.size) (refused 1 []) (unless (not (s.tied (k - 1) k)) (refused 6 []) (accepted 0))
 
 abbrev answer_group : Outline → ℕ → ℕ → Answer
-answer_group s a b = unless (in_order s a b) (refused 1 []) (unless (not (s.block a b || is_crossed_lem s a b)) (refused 5 []) (accepted 0))
+answer_group s a b = unless (in_order s a b) (refused 1 []) (unless (not (s.block a b || is_crossed s a b)) (refused 5 []) (accepted 0))
 
 abbrev answer_ungroup : View → Page → ℕ → ℕ → Answer
 answer_ungroup v p a b = unless (in_order p.order a b) (refused 1 []) (unless (p.order.block a b) (refused 5 []) (judge v.count v.does p.numbers (ungrouped p.order a b) (accepted 0)))
@@ -170,13 +170,13 @@ module _ (before after : Sheet) where
   given_group : (a b : ℕ) (r : Result (Unit {0}) EditFault) → Groups before a b r after
       → Given before after (with_no_saving r) (answer_group s a b) (record { numbers = actions before; order = grouped s a b })
   given_group a b (Ok _) is = record {
-    answers = sym (unless_both (in_order s a b) (not (s.block a b || is_crossed_lem s a b)) _ _ _ ((is_in_order s a b).1 (is.can.several, is.can.positions)) (not_from_false _ (or_from _ _ is.no_block (uncrossed s a b is.can))));
+    answers = sym (unless_both (in_order s a b) (not (s.block a b || is_crossed s a b)) _ _ _ ((is_in_order s a b).1 (is.can.several, is.can.positions)) (not_from_false _ (or_from _ _ is.no_block (uncrossed s a b is.can))));
     leaves = pages_same _ _ is.same_actions is.new_outline;
   }
   given_group a b (Err fault) (inl (n, f), e) = refuse fault _ _ e (rw f (sym (unless_first (in_order s a b) _ _ (not_in_order s a b n))))
-  given_group a b (Err fault) (inr (o, why, f), e) = refuse fault _ _ e (rw f (sym (unless_second (in_order s a b) (not (s.block a b || is_crossed_lem s a b)) _ _ _ ((is_in_order s a b).1 o) (not_from_true _ (blocked why)))))
+  given_group a b (Err fault) (inr (o, why, f), e) = refuse fault _ _ e (rw f (sym (unless_second (in_order s a b) (not (s.block a b || is_crossed s a b)) _ _ _ ((is_in_order s a b).1 o) (not_from_true _ (blocked why)))))
     where
-      blocked : (s.block a b ≡ true) ⊎ Crossed s a b → (s.block a b || is_crossed_lem s a b) ≡ true
+      blocked : (s.block a b ≡ true) ⊎ Crossed s a b → (s.block a b || is_crossed s a b) ≡ true
       blocked (inl h) = or_left _ _ h
       blocked (inr h) = or_right _ _ (crossed s (sheet_rules before) a b h)
 
@@ -292,7 +292,7 @@ module _ (before after : Sheet) where
           by_unless _ (Decides-ltb 0 m) _ _ _ (λ f. ap (λ x. said (Err x)) f) (λ some.
           by_unless _ (decides_leb (replaced s a b m).size 128) _ _ _ (λ f. ap (λ x. said (Err x)) f) (λ room.
           ⊎_elim
-          (λ (_, (n, f, u)). ap (λ x. said (Err x)) f ∙ sym (first_unknown_lem task (actions before ++ list) _ n u))
+          (λ (_, (n, f, u)). ap (λ x. said (Err x)) f ∙ sym (unknown_refused task (actions before ++ list) _ n u))
           (λ (known, rest). by_unless _ is_cheaper _ _ priced_so (λ f. ap (λ x. said (Err x)) f)
           (λ _ (place, (fact, f, w)). ap (λ x. said (Err x)) f ∙ sym (is_wanting task (put_in (actions before) a b list) (replaced s a b m) (replace_keeps_rules s (sheet_rules before) a b m whole some) _ place fact w)) rest
           ∙ sym (all_known task (actions before ++ list) _ known))))))

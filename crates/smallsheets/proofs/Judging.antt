@@ -41,8 +41,8 @@ if_good s e later = by_place (missing s e) later (lowest (λ p. some_below 64 (m
 pub all_known : (task : Task) (numbers : List ℕ) (later : Answer) → AllKnown task numbers → if_known (length (contents task.actions)) numbers later ≡ later
 all_known task numbers later known = ap (by_number numbers later) (lowest_none _ (length numbers) (λ k l. lt-leb _ _ (known k l)))
 
-pub first_unknown_lem : (task : Task) (numbers : List ℕ) (later : Answer) (number : ℕ) → FirstUnknown task numbers number → if_known (length (contents task.actions)) numbers later ≡ refused 2 (number ∷ [])
-first_unknown_lem task numbers later number u =
+pub unknown_refused : (task : Task) (numbers : List ℕ) (later : Answer) (number : ℕ) → FirstUnknown task numbers number → if_known (length (contents task.actions)) numbers later ≡ refused 2 (number ∷ [])
+unknown_refused task numbers later number u =
     ap (by_number numbers later) (lowest_some _ (length numbers) u.at u.within (le-leb _ _ (omega (arith, u.there, u.lacking))) (λ j l. lt-leb _ _ (u.first j l)))
     ∙ ap (λ n. refused 2 (n ∷ [])) u.there
 
@@ -89,5 +89,5 @@ module _ (task : Task) (numbers : List ℕ) (s : Outline) (rules : Rules s) (lat
   judge_passes (known, good) = all_known task numbers _ known ∙ is_good task numbers s rules later good
 
   pub judge_refused : (fault : SheetFault) → Refused task numbers s fault → refused (number_of fault) (values_of fault) ≡ verdict
-  judge_refused fault (inl (n, e, u)) = rw e (sym (first_unknown_lem task numbers _ n u))
+  judge_refused fault (inl (n, e, u)) = rw e (sym (unknown_refused task numbers _ n u))
   judge_refused fault (inr (p, (f, e, known, w))) = rw e (sym (all_known task numbers _ known ∙ is_wanting task numbers s rules later p f w))

@@ -1,5 +1,5 @@
 -- A text that is written to the part of a buffer behind its first bytes.
-use Rattle.std.proofs.Common.{◌≡◌, ℕ, ◌+◌, ◌-◌, ◌<◌, ◌≤◌, List, [], ◌++◌, length, take, drop, sym, ap, ◌∙◌, append-nil, arith, length-drop}
+use Rattle.std.proofs.Common.{◌≡◌, ℕ, ◌+◌, ◌-◌, ◌<◌, ◌≤◌, List, ◌++◌, length, take, drop, sym, ap, ◌∙◌, append-nil, arith, length-drop}
 use borrow.Rule.Slice.PartMut.{put_mid, put_same}
 use Rattle.lines.specs.Writing.{Put, Wrote}
 use Rattle.std.proofs.lemmas.List.{drop_all, drop-drop, take_all}

@@ -1,5 +1,5 @@
 -- The steps of a loaded plan do what the book writes of their actions.
-use Rattle.std.proofs.Common.{◌≡◌, ℕ, zero, suc, ◌<◌, ◌≤◌, Bool, true, false, ◌⊎◌, List, [], ◌∷◌, ◌++◌, length, get_or, Some, None, Ok, Err, Option, Result, sym, refl, ap, ◌∙◌, subst, inl, inr, ⊎_elim, arith}
+use Rattle.std.proofs.Common.{◌≡◌, ℕ, zero, suc, ◌<◌, ◌≤◌, Bool, true, false, ◌⊎◌, List, [], ◌∷◌, ◌++◌, length, Some, None, Ok, Err, Option, Result, sym, refl, ap, ◌∙◌, subst, inl, inr, ⊎_elim, arith}
 use mathlib.Core.Path.{fun_ext}
 use Rattle.std.specs.List.{slice_get}
 use Rattle.std.specs.Option.{option_flatten, option_map}
@@ -9,19 +9,19 @@ use Rattle.sets.specs.declared.bits.BitSet.{BitSet}
 use Rattle.sets.specs.declared.list.ArrayVec.{ArrayVec}
 use Rattle.task.specs.declared.actions.Action.{Action}
 use Rattle.task.specs.declared.tasks.Task.{Task}
-use Rattle.orders.specs.Facts.{Effects, Good}
+use Rattle.orders.specs.Facts.{Effects}
 use Rattle.orders.specs.Sheets.{Outline}
 use Rattle.sheet.specs.Verdicts.{FirstUnknown, LowestWanting, Passes, Refused as NotPassed, effects_of, has_fact, in_a_row}
 use Rattle.sheet.specs.Sheets.{actions, outline}
 use Rattle.sheet.specs.declared.sheet.Sheet.{Sheet}
 use Rattle.sheet.specs.declared.fault.SheetFault.{SheetFault}
-use Rattle.sheet.specs.declared.fault.SheetFault.TheVariants.{TooLong, UnknownAction, WantingFact}
+use Rattle.sheet.specs.declared.fault.SheetFault.TheVariants.{TooLong, WantingFact}
 use Rattle.lines.specs.Text.{reply_text}
 use Rattle.lines.specs.declared.answer.Reply.TheVariants.{Bad, Unlaid}
 use Rattle.lines.specs.declared.answer.ShortBuffer.{ShortBuffer}
 use Rattle.records.specs.Lines.{Deed}
 use Rattle.book.specs.Faults.{line_of, number_of}
-use Rattle.book.specs.Loading.{Accepted, Loaded, Refused}
+use Rattle.book.specs.Loading.{Accepted, Refused}
 use Rattle.book.specs.declared.fault.LoadFault.{LoadFault}
 use Rattle.book.specs.Tasks.{DescribeAll, Describes, Has, TaskOf}
 use Rattle.book.specs.Weeks.{Fits, Week}

@@ -1,5 +1,5 @@
 -- The week's edits, and the listing behind their lines.
-use Rattle.std.proofs.Common.{◌≡◌, ℕ, ◌+◌, ◌<◌, ◌≤◌, true, ◌⊎◌, List, [], ◌∷◌, ◌++◌, map, length, drop, Ok, Err, sum_by, Result, sym, refl, ap, ◌∙◌, subst, inl, inr, append-nil, arith, length-append, length-drop}
+use Rattle.std.proofs.Common.{◌≡◌, ℕ, ◌+◌, ◌<◌, ◌≤◌, true, ◌⊎◌, List, [], ◌∷◌, ◌++◌, map, length, drop, Ok, Err, sum_by, Result, sym, refl, ap, ◌∙◌, subst, inl, inr, arith, length-append, length-drop}
 use Rattle.std.proofs.lemmas.List.{flat_map_more}
 use Rattle.std.specs.List.{AllByRecursion}
 use Rattle.book.specs.Weeks.{ChangeFits, Fits, Week, said}
@@ -7,21 +7,20 @@ use Rattle.edits.specs.Applying.{saved}
 use Rattle.shaping.specs.declared.fault.EditFault.{EditFault}
 use Rattle.lines.proofs.Puts.{put_more}
 use Rattle.lines.specs.Text.{listing_text}
-use Rattle.lines.specs.Writing.{Put, Wrote}
+use Rattle.lines.specs.Writing.{Put}
 use Rattle.lines.specs.declared.answer.ShortBuffer.{ShortBuffer}
 use Rattle.orders.specs.Changes.{Change}
 use Rattle.orders.specs.Facts.{Effects, Good}
 use Rattle.orders.specs.Sheets.{Outline}
 use Rattle.records.specs.Lines.{Line}
-use Rattle.records.specs.Lines.Line.{fact, act, start, goal, step, edit}
+use Rattle.records.specs.Lines.Line.{fact, act, step, edit}
 use Rattle.week.proofs.Laid.{same_effects}
 use Rattle.week.proofs.Prices.{week_prices}
 use Rattle.week.proofs.Working.{carried_even, carried_good}
 use Rattle.week.specs.Editing.{CarriedOut, Outgrown, Replied, answer_text, book_prices, changes_in, replies, with_change}
-use Rattle.week.specs.Laying.{week_effects, week_outline}
-use Rattle.week.specs.Output.{Begun, Edited, LaidAs, Listed, Writes, book_price, sheet_text}
-use Rattle.week.specs.declared.answering.Outcome.{Outcome}
-use Rattle.sheet.specs.Sheets.{actions, outline}
+use Rattle.week.specs.Laying.{week_outline}
+use Rattle.week.specs.Output.{Begun, Edited, LaidAs, Listed, Writes}
+use Rattle.sheet.specs.Sheets.{actions}
 use Rattle.sheet.specs.Verdicts.{effects, effects_of}
 use Rattle.sheet.specs.declared.sheet.Sheet.{Sheet}
 use Rattle.task.specs.declared.tasks.Task.{Task}

@@ -4,7 +4,7 @@ ghost use Rattle.text.specs.Fields.{IsList};
 ghost use Rattle.book.specs.Joining.{Holds, Joins};
 ghost use Rattle.orders.specs.Changes.{Change};
 ghost use Rattle.records.specs.Lines.{Deed, Line, Proper, ProperChange, ProperDeed};
-ghost use Rattle.records.specs.Lines.Line.{fact as fact-line, act as act-line, start as start-line, goal as goal-line, step as step_line, edit as edit-line};
+ghost use Rattle.records.specs.Lines.Line.{fact as fact_line, act as act_line, start as start_line, goal as goal_line, step as step_line, edit as edit_line};
 ghost use Rattle.records.specs.Records.{ActSays, EditSays, Says};
 ghost use Rattle.book.specs.Stages.{rank_of};
 ghost use Rattle.book.specs.Tasks.{Describes, Has};
@@ -45,7 +45,7 @@ impl Loader {
     }
 
     fn fact(&mut self) -> Result<(), TurnFault>
-        ensures { (name : List ℕ) → Joins self.old (fact-line name) result self.new }
+        ensures { (name : List ℕ) → Joins self.old (fact_line name) result self.new }
     {
         if self.stage.rank() > 0 {
             return Err(TurnFault::Sequence);
@@ -57,7 +57,7 @@ impl Loader {
     }
 
     fn act(&mut self, act: Act<'_>) -> Result<(), TurnFault>
-        ensures { (d : Deed) → ProperDeed d → ActSays act.entry d → Joins self.old (act-line d) result self.new }
+        ensures { (d : Deed) → ProperDeed d → ActSays act.entry d → Joins self.old (act_line d) result self.new }
     {
         if self.stage.rank() > 1 {
             return Err(TurnFault::Sequence);
@@ -97,7 +97,7 @@ impl Loader {
     }
 
     fn start(&mut self, text: &[u8]) -> Result<(), TurnFault>
-        ensures { (set : List ℕ) → IsList text.now set → Joins self.old (start-line set) result self.new }
+        ensures { (set : List ℕ) → IsList text.now set → Joins self.old (start_line set) result self.new }
     {
         if self.stage.rank() > 1 {
             return Err(TurnFault::Sequence);
@@ -108,7 +108,7 @@ impl Loader {
     }
 
     fn goal(&mut self, text: &[u8]) -> Result<(), TurnFault>
-        ensures { (set : List ℕ) → IsList text.now set → Joins self.old (goal-line set) result self.new }
+        ensures { (set : List ℕ) → IsList text.now set → Joins self.old (goal_line set) result self.new }
     {
         if self.stage.rank() != 2 {
             return Err(TurnFault::Sequence);
@@ -134,7 +134,7 @@ impl Loader {
     }
 
     fn edit(&mut self, edit: Edit<'_>) -> Result<(), TurnFault>
-        ensures { (c : Change) → ProperChange c → EditSays edit.entry c → Joins self.old (edit-line c) result self.new }
+        ensures { (c : Change) → ProperChange c → EditSays edit.entry c → Joins self.old (edit_line c) result self.new }
     {
         if self.stage.rank() < 3 {
             return Err(TurnFault::Sequence);

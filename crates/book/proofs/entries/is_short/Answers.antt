@@ -9,8 +9,8 @@ loop-next-preserved c =
     let i = c.loop-next.invariant in
     (i.0 ++ c.in-Some.field-0 ∷ [], reads_more i.1 next.2, omega (arith, length-append i.0 (c.in-Some.field-0 ∷ [])), omega arith)
 
-pub returns-then-count-eq-LONGEST-LIST : goal.returns-then-count-eq-LONGEST-LIST
-returns-then-count-eq-LONGEST-LIST c list is =
+pub returns-then-count-eq-LONGEST_LIST : goal.returns-then-count-eq-LONGEST_LIST
+returns-then-count-eq-LONGEST_LIST c list is =
     let next = rw c.in-Some.is at c.in-Ok.ensures in
     let i = c.loop-next.invariant in
     omega (arith, too_many _ _ _ _ _ i.1 next.2 list is)

@@ -1,4 +1,4 @@
-use Rattle.std.proofs.Common.{[], ◌∷◌, ◌++◌, sym, refl, ◌∙◌, arith}
+use Rattle.std.proofs.Common.{[], ◌∷◌, ◌++◌, arith}
 use Rattle.std.proofs.ByRecursion.{All-append}
 use Rattle.text.proofs.Lists.{reads_more, reads_all}
 use Rattle.book.proofs.ReadSoFar.{next_known, inserted}

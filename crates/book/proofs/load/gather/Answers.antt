@@ -1,9 +1,9 @@
-use Rattle.std.proofs.Common.{◌≡◌, ◌∷◌, length, Some, None, Ok, Err, sym, refl, ap, ◌∙◌, subst, arith, length-append}
+use Rattle.std.proofs.Common.{◌∷◌, length, Ok, ap, ◌∙◌, subst, arith, length-append}
 use Rattle.std.proofs.lemmas.Result.{err_from_is_err_and}
 use Rattle.records.specs.Lines.{text}
 use Rattle.records.specs.Reading.{Next, unread}
 use Rattle.book.proofs.Placed.{placed_ok, placed_err}
-use Rattle.book.proofs.Progress.{begin, no_form, unfinished, finished, out_of_turn, in_turn}
+use Rattle.book.proofs.Progress.{at_number, begin, no_form, unfinished, finished, out_of_turn, in_turn}
 use Rattle.book.proofs.load.gather.Goals as goal
 
 pub loop-next-init : goal.loop-next-init
@@ -32,7 +32,7 @@ returns-in_err-placed c =
     let p = err_from_is_err_and c.from_residual-in_err-placed.result c.from_residual-in_err-placed.ensures.1 in
     let q = placed_err _ c.accept.result _ c.in_err-placed.ensures in
     let n = subst (λ r. Next c.loop-next.reader r c.next.new.self) (placed_ok _ _ _ c.in_ok-next.ensures ∙ ap Ok c.in-Some.is) c.next.ensures in
-    rw (p.1, p.2) (omega arith, rw (q.2, c.line-line.ensures) (out_of_turn _ _ c.next.new.self _ c.accept.new.self c.loop-next.invariant c.in-Some.next n q.0 (λ l p says. rw q.1 at (c.accept.ensures l p says))))
+    rw (p.1, p.2) (omega arith, at_number _ (out_of_turn _ _ c.next.new.self _ c.accept.new.self c.loop-next.invariant c.in-Some.next n q.0 (λ l p says. rw q.1 at (c.accept.ensures l p says))) (omega (arith, q.2, c.line-line.ensures)))
 
 pub returns-then-rank-lt3 : goal.returns-then-rank-lt3
 returns-then-rank-lt3 c =

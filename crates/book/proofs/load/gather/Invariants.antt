@@ -1,4 +1,4 @@
-use Rattle.std.proofs.Common.{◌≤◌, length}
+use Rattle.std.proofs.Common.{length}
 use Rattle.records.specs.Reading.{unread}
 use Rattle.book.proofs.Progress.{Progress}
 use Rattle.book.proofs.load.gather.Given as goal

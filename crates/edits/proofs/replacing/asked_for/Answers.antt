@@ -1,4 +1,4 @@
-use Rattle.std.proofs.Common.{arith, rules}
+use Rattle.std.proofs.Common.{rules}
 use Rattle.edits.proofs.ReplaceAnswers.{known_back}
 use Rattle.edits.proofs.replacing.asked_for.Goals as goal
 use Rattle.sheet.proofs.Laid.{known_small}

@@ -1,9 +1,7 @@
-use Rattle.std.proofs.Common.{sym, refl, subst, arith}
+use Rattle.std.proofs.Common.{refl, arith}
 use Rattle.std.proofs.lemmas.Result.{err_from_is_err_and}
 use Rattle.edits.proofs.ReplaceAnswers.{accepted, not_asked, not_cheaper, refused_by_check}
 use Rattle.edits.proofs.replacing.replace.Goals as goal
-use Rattle.edits.specs.Replacing.{IsReplaced}
-use Rattle.sheet.specs.declared.sheet.Sheet.{Sheet}
 
 pub returns-in_err-asked : goal.returns-in_err-asked
 returns-in_err-asked g c =

@@ -1,4 +1,4 @@
-use Rattle.std.proofs.Common.{◌≡◌, ℕ, ◌-◌, ◌<◌, sym, ap, ◌∙◌, subst}
+use Rattle.std.proofs.Common.{ℕ, ◌-◌, ◌<◌, sym, ap, ◌∙◌, subst}
 use Rattle.shaping.proofs.Outlines.{rules_kept}
 use Rattle.edits.proofs.SwapLists.{same_get_or}
 use Rattle.edits.proofs.SwapSheets.{order_is, swapped_is}
@@ -13,8 +13,8 @@ moved_steps-requires c = (bounds (outline c.args.sheet.now) (sheet_rules c.args.
 pub invariant_of-sheet : goal.invariant_of-sheet
 invariant_of-sheet c =
     let before = c.args.sheet.now in
-    let (is-k, parts) = c.in-Some.ensures in
-    let free = ap (λ v. (outline before).tied (v - 1) v) is-k ∙ sym c.if-is_tied.ensures in
+    let (is_k, parts) = c.in-Some.ensures in
+    let free = ap (λ v. (outline before).tied (v - 1) v) is_k ∙ sym c.if-is_tied.ensures in
     let order = order_is before c.moved_steps.result c.moved_ties.result c.moved_blocks.result _ _ _ parts c.moved_steps.ensures c.moved_ties.ensures.ties c.moved_blocks.ensures.blocks in record {
       numbers = λ x. subst (λ (v : ℕ). v < 128) (sym (same_get_or (actions before) _ _ x (c.moved_steps.ensures x))) (before.numbers _);
       ties = c.moved_ties.ensures.rows;
@@ -25,7 +25,7 @@ invariant_of-sheet c =
 pub returns : goal.returns
 returns c =
     let before = c.args.sheet.now in
-    let (is-k, parts) = c.in-Some.ensures in
-    let free = ap (λ v. (outline before).tied (v - 1) v) is-k ∙ sym c.if-is_tied.ensures in
+    let (is_k, parts) = c.in-Some.ensures in
+    let free = ap (λ v. (outline before).tied (v - 1) v) is_k ∙ sym c.if-is_tied.ensures in
     let order = order_is before c.moved_steps.result c.moved_ties.result c.moved_blocks.result _ _ _ parts c.moved_steps.ensures c.moved_ties.ensures.ties c.moved_blocks.ensures.blocks in
-    swapped_is before _ _ _ _ _ is-k parts free order c.moved_steps.ensures
+    swapped_is before _ _ _ _ _ is_k parts free order c.moved_steps.ensures

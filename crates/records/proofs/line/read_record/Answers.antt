@@ -1,5 +1,5 @@
 -- A line has one word and one rest.
-use Rattle.std.proofs.Common.{sym, ◌∙◌, arith}
+use Rattle.std.proofs.Common.{arith}
 use Rattle.records.specs.Lines.{word, fields}
 use Rattle.records.specs.Words.{spelled}
 use Rattle.records.proofs.FirstField.{same_field}

@@ -1,4 +1,4 @@
-use Rattle.std.proofs.Common.{sym, ◌∙◌, arith}
+use Rattle.std.proofs.Common.{sym, ◌∙◌}
 use Rattle.sheet.proofs.RowLaws.{row_past, row_read}
 use Rattle.sheet.proofs.rows.row.Goals as goal
 

@@ -1,4 +1,4 @@
-use Rattle.std.proofs.Common.{sym, refl, ◌∙◌, arith}
+use Rattle.std.proofs.Common.{refl, ◌∙◌, arith}
 use Rattle.std.proofs.lemmas.Result.{err_from_is_err_and}
 use Rattle.week.proofs.Working.{next_fits, no_room, work_begins, work_ends, works_on}
 use Rattle.week.proofs.editing.carry_out_all.Goals as goal

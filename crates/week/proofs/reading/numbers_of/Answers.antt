@@ -1,5 +1,4 @@
 use Rattle.std.proofs.Common.{◌≡◌, ℕ, ◌<◌, ◌≤◌, List, [], ◌∷◌, ◌++◌, length, Ok, Err, Result, sym, ap, ◌∙◌, arith, length-append, MatchResult}
-use Rattle.sets.specs.Contents.{contents}
 use Rattle.text.proofs.Lists.{reads_all, reads_broken, reads_more, reads_none}
 use Rattle.week.proofs.reading.numbers_of.Goals as goal
 

@@ -4,7 +4,7 @@ use Rattle.book.proofs.loader.Loader.fact.Goals as goal
 
 pub returns : goal.returns
 returns c name w (t, p) =
-    let e = c.if-not-add-fact.ensures in (
+    let e = c.if-not-add_fact.ensures in (
       (omega arith, omega (arith, e.facts)),
       (record { facts = omega (arith, e.facts, length_push w.facts name); actions = rw e.actions t.actions; start = rw e.start t.start; goal = rw e.goal t.goal }, p),
       omega arith,

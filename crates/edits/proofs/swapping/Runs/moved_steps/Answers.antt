@@ -1,4 +1,4 @@
-use Rattle.std.proofs.Common.{◌≡◌, ℕ, List, length, get_or, ap, ◌∙◌, arith}
+use Rattle.std.proofs.Common.{ℕ, List, length, get_or, ap, ◌∙◌, arith}
 use Rattle.edits.proofs.SwapLists.{made_more, slice_get-made}
 use Rattle.edits.proofs.swapping.Runs.moved_steps.Goals as goal
 use Rattle.orders.specs.Edits.{comes}

@@ -1,4 +1,4 @@
-use Rattle.std.proofs.Common.{◌≡◌, ap, ◌∙◌, arith}
+use Rattle.std.proofs.Common.{ap, ◌∙◌, arith}
 use Rattle.shaping.proofs.RowEdits.{written_all, written_more}
 use Rattle.edits.proofs.SwapLaws.{comes_past}
 use Rattle.edits.proofs.swapping.Runs.moved_ties.Goals as goal

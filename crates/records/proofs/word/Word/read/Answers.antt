@@ -7,32 +7,32 @@ use Rattle.records.proofs.word.Word.read.Goals as goal
 -- what the tests on the length say
 ruleset tests = (ltb-true, ltb-false, leb-true, leb-false)
 
-pub returns-in-97 : goal.returns-in-97
-returns-in-97 c = text_from_reads _ _ (omega (arith, tests)) (omega arith)
+pub returns-in-act : goal.returns-in-act
+returns-in-act c = text_from_reads _ _ (omega (arith, tests)) (omega arith)
 
-pub returns-in-102 : goal.returns-in-102
-returns-in-102 c = text_from_reads _ _ (omega (arith, tests)) (omega arith)
+pub returns-in-fact : goal.returns-in-fact
+returns-in-fact c = text_from_reads _ _ (omega (arith, tests)) (omega arith)
 
-pub returns-in-103 : goal.returns-in-103
-returns-in-103 c = text_from_reads _ _ (omega (arith, tests)) (omega arith)
+pub returns-in-goal : goal.returns-in-goal
+returns-in-goal c = text_from_reads _ _ (omega (arith, tests)) (omega arith)
 
-pub returns-in-115-2 : goal.returns-in-115-2
-returns-in-115-2 c = text_from_reads _ _ (omega (arith, tests)) (omega arith)
+pub returns-in-step : goal.returns-in-step
+returns-in-step c = text_from_reads _ _ (omega (arith, tests)) (omega arith)
 
-pub returns-in-115-3 : goal.returns-in-115-3
-returns-in-115-3 c = text_from_reads _ _ (omega (arith, tests)) (omega arith)
+pub returns-in-swap : goal.returns-in-swap
+returns-in-swap c = text_from_reads _ _ (omega (arith, tests)) (omega arith)
 
-pub returns-in-115 : goal.returns-in-115
-returns-in-115 c = text_from_reads _ _ (omega (arith, tests)) (omega arith)
+pub returns-in-start : goal.returns-in-start
+returns-in-start c = text_from_reads _ _ (omega (arith, tests)) (omega arith)
 
-pub returns-in-103-2 : goal.returns-in-103-2
-returns-in-103-2 c = text_from_reads _ _ (omega (arith, tests)) (omega arith)
+pub returns-in-group : goal.returns-in-group
+returns-in-group c = text_from_reads _ _ (omega (arith, tests)) (omega arith)
 
-pub returns-in-108 : goal.returns-in-108
-returns-in-108 c = text_from_reads _ _ (omega (arith, tests)) (omega arith)
+pub returns-in-loosen : goal.returns-in-loosen
+returns-in-loosen c = text_from_reads _ _ (omega (arith, tests)) (omega arith)
 
-pub returns-in-117 : goal.returns-in-117
-returns-in-117 c = text_from_reads _ _ (omega (arith, tests)) (omega arith)
+pub returns-in-ungroup : goal.returns-in-ungroup
+returns-in-ungroup c = text_from_reads _ _ (omega (arith, tests)) (omega arith)
 
-pub returns-in-114 : goal.returns-in-114
-returns-in-114 c = text_from_reads _ _ (omega (arith, tests)) (omega arith)
+pub returns-in-replace : goal.returns-in-replace
+returns-in-replace c = text_from_reads _ _ (omega (arith, tests)) (omega arith)

@@ -1,4 +1,4 @@
-use Rattle.std.proofs.Common.{◌≡◌, ℕ, ◌&&◌, ◌||◌, sym, ap, ◌∙◌, arith}
+use Rattle.std.proofs.Common.{◌≡◌, ℕ, ◌&&◌, ◌||◌, ap, ◌∙◌, arith}
 use Rattle.orders.specs.Check.{leads, never_put, some_below, taken_by}
 use Rattle.orders.specs.Facts.{needed}
 use Rattle.sets.specs.Member.{member}

@@ -1,4 +1,3 @@
-use Rattle.std.proofs.Common.{◌∙◌}
 use Rattle.sheet.proofs.Laid.{known_small}
 use Rattle.sheet.proofs.sheet.laying.lay.Goals as goal
 
