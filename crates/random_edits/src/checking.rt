@@ -1,6 +1,6 @@
 // Sheets of many shapes, each compared with the list of its running orders.
+use crate::enumeration::Orders;
 use crate::model::Model;
-use crate::orders::Orders;
 use crate::random::Random;
 use crate::tasks::PlainTask;
 use crate::verdicts::{check_says, checked};

@@ -1,7 +1,7 @@
 // The edits of a sheet, each compared with what the rules say.
 use crate::choosing;
+use crate::enumeration::Orders;
 use crate::model::{MOST_STEPS, Model};
-use crate::orders::Orders;
 use crate::random::Random;
 use crate::rules::{Done, ruled};
 use crate::tallies::Tally;

@@ -1,8 +1,8 @@
 // Sheets made of the positions of another: entry x of the sources is the old position whose ties and blocks the new
 // position x has.
+use crate::enumeration::Order;
 use crate::lists::{Pair, Pairs, is_inside};
 use crate::model::Model;
-use crate::orders::Order;
 use sets::list::ArrayVec;
 
 pub fn push_run(sources: &mut Order, first: usize, end: usize) {

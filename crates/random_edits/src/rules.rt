@@ -1,9 +1,9 @@
 // The rules of the edits, followed on plain lists.
 use crate::closing::closed;
+use crate::enumeration::{Order, Orders};
 use crate::lists::{Pair, is_inside, is_within, overlap, without};
 use crate::model::Model;
 use crate::moving::{blocks_from, moved, push_run, ties_from};
-use crate::orders::{Order, Orders};
 use crate::tasks::{PlainTask, Prices};
 use crate::verdicts::{Refusal, checked, known};
 use edits::Edit;

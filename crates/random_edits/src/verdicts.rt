@@ -1,6 +1,6 @@
 // What the list of all running orders says of a sheet.
+use crate::enumeration::{Order, Orders};
 use crate::model::Model;
-use crate::orders::{Order, Orders};
 use crate::tasks::{FACTS, PlainTask, has};
 use sets::list::ArrayVec;
 use sheet::{Sheet, check};
