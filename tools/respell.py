@@ -64,8 +64,12 @@ def main(argv):
             m = DECLARED.match(line) or CONTINUED.match(line)
             if m and "-" in m[1]:
                 own.add(m[1])
-    turned = {n: JOINED.get(n) or n.replace("-", "_") for n in own if n not in goals and n not in library}
+    kept = set(JOINED.values())
+    turned = {n: JOINED.get(n) or n.replace("-", "_") for n in own if n not in goals and n not in library and n not in kept}
     turned = {a: b for a, b in turned.items() if a != b}
+    if not turned:
+        print("no name to turn")
+        return 0
     words = {w for t in proofs.values() for w in re.findall(LETTER + "+", re.sub(r"--.*", "", t))}
     clash = sorted(a for a, b in turned.items() if b in words or b in library or sum(c == b for c in turned.values()) > 1)
     if clash:
@@ -83,4 +87,5 @@ def main(argv):
     return 0
 
 
-sys.exit(main(sys.argv[1:]))
+if __name__ == "__main__":
+    sys.exit(main(sys.argv[1:]))
