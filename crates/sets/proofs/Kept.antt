@@ -1,11 +1,11 @@
 -- What the functions on sets keep: the ghost fields, and the members after a write and in a loop.
-use Rattle.std.proofs.Common.{◌≡◌, ℕ, ◌+◌, ◌-◌, ◌*◌, ◌/◌, ◌%◌, ◌^◌, ◌<◌, ◌≤◌, min, Bool, true, false, cond, not, ◌&&◌, ◌||◌, eqb, ltb, List, length, get_or, set, replicate, sym, refl, ap, ◌∙◌, ⊎_elim, arith, pow_mono}
+use Rattle.std.proofs.Common.{◌≡◌, ℕ, ◌+◌, ◌-◌, ◌*◌, ◌/◌, ◌%◌, ◌^◌, ◌<◌, min, Bool, true, false, not, ◌&&◌, ◌||◌, eqb, ltb, List, length, get_or, set, replicate, sym, refl, ap, ◌∙◌, ⊎_elim, arith, pow_mono}
 use lib.Bits.{bit_and, bit_or}
 use lib.Count.{ones, count_trailing_zeros}
 use lib.Pow.{ones_lt}
 use Rattle.std.proofs.lemmas.Nat.{and_le_l, one_shl, or_lt, pow_below}
 use Rattle.std.proofs.lemmas.List.{get_or_past, get_or-replicate, get_or-set_other, get_or-set_same, length-replicate}
-use Rattle.std.proofs.lemmas.Bool.{and_parts, both_ways, cases_Bool, cases_eq, cases_lt, lt-ltb, ltb-true}
+use Rattle.std.proofs.lemmas.Bool.{and_parts, both_ways, cases_eq, cases_lt, lt-ltb, ltb-true}
 use Rattle.std.proofs.lemmas.Bool.Decides.{nat_tests}
 use Rattle.sets.specs.Member.{bit, member, tally}
 use Rattle.sets.specs.declared.bits.BitSet.{BitSet}
@@ -19,9 +19,6 @@ Sound W ws = (length ws ≡ W) × ((k : ℕ) → get_or ws k 0 < 2 ^ 64) × ((i 
 pub zeros_at : (n k : ℕ) → get_or {A = ℕ} (replicate n 0) k 0 ≡ 0
 zeros_at n k =
     ⊎_elim (λ h. get_or-replicate n k 0 0 h) (λ h. get_or_past (replicate n 0) k 0 (rw length-replicate h)) (cases_lt k n)
-
-pub member_zeros : (n i : ℕ) → member (replicate n 0) i ≡ false
-member_zeros n i = bit_same (i % 64) (zeros_at n (i / 64)) ∙ bit_zero (i % 64)
 
 -- v is written over the word of i, and changes no bit but that of i, which h gives
 pub member_write : {W : ℕ} (s : BitSet W) (h : Bool → Bool → Bool) → ((x : Bool) → h x false ≡ x) → (i v : ℕ) → i / 64 < W → ((b : ℕ) → b < 64 → bit v b ≡ h (bit (get_or s.words (i / 64) 0) b) (eqb b (i % 64))) → (j : ℕ) → member (set s.words (i / 64) v) j ≡ h (member s.words j) (eqb j i)
@@ -69,26 +66,24 @@ module _ (w k : ℕ) (small : k < 64) (b : ℕ) (l : b < 64) where
       rw (one_shl k 64 small)
       (wordwise_minus.bits w (2 ^ k) b (pow_below k 64 small) l ∙ ap (λ t. bit w b && not t) (bit_one k b))
 
--- the first i words of `ws` are f of those of a and b, and the others those of a
-abbrev pub Merged : (ℕ → ℕ → ℕ) → List ℕ → List ℕ → List ℕ → ℕ → Type 0
-Merged f a b ws i = (length ws ≡ length a) × ((k : ℕ) → get_or ws k 0 ≡ cond (ltb k i) (f (get_or a k 0) (get_or b k 0)) (get_or a k 0))
-
-module _ {f : ℕ → ℕ → ℕ} {h : Bool → Bool → Bool} (op : Wordwise f h) {W : ℕ} (a b : BitSet W) (ws : List ℕ) (n : ℕ) (last : W ≤ n) (m : Merged f a.words b.words ws n) where
+-- the words of `ws` are f of those of a and b
+module _ {f : ℕ → ℕ → ℕ} {h : Bool → Bool → Bool} (op : Wordwise f h) {W : ℕ} (a b : BitSet W) (ws : List ℕ) (size : length ws ≡ W) (each : (k : ℕ) → k < W → get_or ws k 0 ≡ f (get_or a.words k 0) (get_or b.words k 0)) where
   merged_at : (k : ℕ) → get_or ws k 0 ≡ f (get_or a.words k 0) (get_or b.words k 0)
   merged_at k =
-      ⊎_elim (λ l. m.1 k ∙ rw (lt-ltb k n (omega arith)) refl)
+      ⊎_elim (each k)
       (λ l.
       let p = get_or_past a.words k 0 (omega (arith, a.size)) in
       let q = get_or_past b.words k 0 (omega (arith, b.size)) in
+      let r = get_or_past ws k 0 (omega arith) in
       let e = op.none in
-      grind (arith, nat_tests, m.1 k, cases_Bool (ltb k n)))
+      cc)
       (cases_lt k W)
 
   pub member_merged : (i : ℕ) → member ws i ≡ h (member a.words i) (member b.words i)
   member_merged i = bit_same (i % 64) (merged_at (i / 64)) ∙ op.bits _ _ (i % 64) (b.fits (i / 64)) (omega arith)
 
   pub sound_merged : Sound W ws
-  sound_merged = (m.0 ∙ a.size, (λ k. rw (merged_at k) (op.fits _ _ (a.fits k) (b.fits k))), small)
+  sound_merged = (size, (λ k. rw (merged_at k) (op.fits _ _ (a.fits k) (b.fits k))), small)
     where
       quiet : h false false ≡ false
       quiet = sym (op.bits 0 0 0 (omega arith) (omega arith)) ∙ bit_same 0 op.none
@@ -113,12 +108,6 @@ member_lowest s k p zeros =
       λ j l. ⊎_elim (λ e. ap (λ (q : ℕ). bit (get_or s.words q 0) (j % 64)) e ∙ low.2 (j % 64) (omega arith))
           (λ ne. bit_same (j % 64) (zeros (j / 64) (omega (arith, low.0))) ∙ bit_zero (j % 64)) (cases_eq (j / 64) k),
     )
-
--- no word but 0, no member
-pub member_none : (ws : List ℕ) (n : ℕ) → length ws ≤ n → ((q : ℕ) → q < n → get_or ws q 0 ≡ 0) → (i : ℕ) → member ws i ≡ false
-member_none ws n l zeros i =
-    ⊎_elim (λ h. bit_same (i % 64) (zeros (i / 64) h) ∙ bit_zero (i % 64)) (λ h. member_past ws i (omega arith))
-    (cases_lt (i / 64) n)
 
 -- the count of one more word's members
 pub tally_word : {W : ℕ} (s : BitSet W) (k : ℕ) → tally (member s.words) (64 * (k + 1)) ≡ tally (member s.words) (64 * k) + ones (get_or s.words k 0)

@@ -1,11 +1,10 @@
 -- The laws of membership that hold of any set.
-use Rattle.std.proofs.Common.{◌≡◌, ℕ, ◌+◌, ◌*◌, ◌/◌, ◌%◌, ◌^◌, ◌<◌, ◌≤◌, true, false, not, ◌&&◌, eqb, List, length, get_or, sym, refl, ap, ◌∙◌, ⊎_elim, arith}
-use mathlib.Core.Bool.{and-true}
+use Rattle.std.proofs.Common.{◌≡◌, ℕ, ◌+◌, ◌*◌, ◌/◌, ◌%◌, ◌^◌, ◌<◌, ◌≤◌, Bool, true, false, not, ◌&&◌, ltb, List, length, get_or, sym, refl, ◌∙◌, ⊎_elim, arith}
 use mathlib.Core.HLevel.{is_prop→PathP, Π_prop}
 use native.Mathlib.Bridge.{le_prop}
 use native.Mathlib.Nat.{ℕ_set}
 use Rattle.std.proofs.lemmas.List.{get_or_past, ext_get_or}
-use Rattle.std.proofs.lemmas.Bool.{and_left, both_ways, cases_Bool, cases_eq, cases_lt, ne_eqb}
+use Rattle.std.proofs.lemmas.Bool.{both_ways, cases_Bool, cases_lt}
 use Rattle.std.proofs.lemmas.Bool.Decides.{nat_tests}
 use Rattle.sets.specs.Member.{bit, member}
 use Rattle.sets.specs.declared.bits.BitSet.{BitSet}
@@ -34,12 +33,6 @@ member_at ws k b h =
     let r : (64 * k + b) % 64 ≡ b = omega arith in
     rw (q, r) refl
 
--- what is no member can be left out
-pub member_without : (ws : List ℕ) (i j : ℕ) → member ws i ≡ false → member ws j ≡ (member ws j && not (eqb j i))
-member_without ws i j e =
-    ⊎_elim (λ t. ap (member ws) t ∙ e ∙ sym (and_left (member ws j) _ (ap (member ws) t ∙ e)))
-    (λ ne. rw (ne_eqb j i ne, and-true (member ws j)) refl) (cases_eq j i)
-
 -- words that fit and have the same members are the same
 pub words_same : (ws vs : List ℕ) → length ws ≡ length vs → ((k : ℕ) → get_or ws k 0 < 2 ^ 64) → ((k : ℕ) → get_or vs k 0 < 2 ^ 64) → ((i : ℕ) → member ws i ≡ member vs i) → ws ≡ vs
 words_same ws vs e f g same = ext_get_or 0 ws vs e (λ k _. ⊎_elim (λ h. h) (apart k) (same_or_differ 64 (get_or ws k 0) (get_or vs k 0) (f k) (g k)))
@@ -60,3 +53,10 @@ sets_same {W} a b same = λ i. record {
   where
     p : a.words ≡ b.words
     p = words_same a.words b.words (a.size ∙ sym b.size) a.fits b.fits same
+
+-- the members of `below_where`, where the answers to the numbers below k are a test
+pub members_where : {W : ℕ} (k : ℕ) (s : BitSet W) (Gives : ℕ → Bool → Type 0) (test : ℕ → Bool) → k ≤ 64 * W → ((j : ℕ) → j < k → j < 64 * W → (b : Bool) × Gives j b × (member s.words j ≡ b)) → ((j : ℕ) → member s.words j ≡ true → j < k) → ((j : ℕ) (b : Bool) → j < k → Gives j b → b ≡ test j) → (j : ℕ) → member s.words j ≡ (ltb j k && test j)
+members_where k s Gives test room gives bound says j = ⊎_elim
+    (λ l. let g = gives j l (omega arith) in let e = g.2 ∙ says j g.0 l g.1 in grind (arith, nat_tests))
+    (λ l. ⊎_elim (λ e. absurd (omega (arith, bound j e))) (λ e. e ∙ grind (arith, nat_tests)) (cases_Bool (member s.words j)))
+    (cases_lt j k)

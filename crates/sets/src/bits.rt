@@ -1,11 +1,11 @@
 // A set of numbers below 64 * W, a bit for each.
-ghost use Rattle.std.specs.Prelude.{◌≡◌, ℕ, ◌-◌, ◌*◌, ◌^◌, ◌<◌, min, true, false, not, ◌&&◌, ◌||◌, length, Decides, MatchBool, MatchOption, ◌==◌, nat_lt, nat_eq, slice_index};
+ghost use Rattle.std.specs.Prelude.{◌≡◌, ℕ, ◌-◌, ◌*◌, ◌^◌, ◌<◌, min, Bool, true, false, not, ◌&&◌, ◌||◌, length, Decides, MatchBool, MatchOption, bit_and, bit_or, ◌==◌, nat_lt, nat_eq, slice_index};
 ghost use Rattle.sets.specs.Member.{member, tally};
-ghost use Rattle.std.specs.Cmp.{on_equiv, on_per, partial_equiv_from_equiv};
+ghost use Rattle.std.specs.Cmp.{on_per, partial_equiv_from_equiv};
 ghost use Rattle.std.specs.Cmp.Lexicographic.{pointwise, nat_list_eq_equiv};
 
 // Number i is a member where bit i % 64 of word i / 64 is set.
-#[derive(Clone, Copy)]
+#[derive(Clone, Copy, Eq)]
 pub struct BitSet<const W: usize> {
     words: [u64; W],
     ghost size: { length words ≡ W },
@@ -34,13 +34,28 @@ impl<const W: usize> BitSet<W> {
         BitSet { words }
     }
 
+    // The numbers below `k` that pass, as far as there is room.
+    pub fn below_where<F: Fn(usize) -> bool>(k: usize, passes: F) -> Self
+        requires { (j : ℕ) → j < k → F.pre passes j }
+        ensures test { (j : ℕ) → j < k → j < 64 * W → (passed : Bool) × F.post passes j passed × (member result.words j ≡ passed) }
+        ensures bound { (j : ℕ) → member result.words j ≡ true → j < k }
+    {
+        let mut set = BitSet::empty();
+        for j in 0..k {
+            if passes(j) {
+                set.insert(j);
+            }
+        }
+        set
+    }
+
     pub fn has(&self, i: usize) -> bool
         ensures { result ≡ member self.now.words i }
     {
         i / 64 < W && (self.words[i / 64] >> (i % 64)) & 1 == 1
     }
 
-    // Puts `i` in, and says whether there is room for it.
+    // Puts `i` in, and says whether there is room for it, by a bool as the `insert` of any set.
     pub fn insert(&mut self, i: usize) -> bool
         ensures room { result ≡ nat_lt i (64 * W) }
         ensures members { (j : ℕ) → member self.new.words j ≡ (member self.old.words j || (j == i && nat_lt i (64 * W))) }
@@ -63,32 +78,35 @@ impl<const W: usize> BitSet<W> {
     pub fn union(&self, other: &Self) -> Self
         ensures { (i : ℕ) → member result.words i ≡ (member self.now.words i || member other.now.words i) }
     {
-        let mut words = self.words;
-        for i in 0..W {
-            words[i] |= other.words[i];
+        let or = |x: u64, y: u64| -> u64
+            ensures { result ≡ bit_or x y }
+        { x | y };
+        BitSet {
+            words: zip_words(&self.words, &other.words, or),
         }
-        BitSet { words }
     }
 
     pub fn intersection(&self, other: &Self) -> Self
         ensures { (i : ℕ) → member result.words i ≡ (member self.now.words i && member other.now.words i) }
     {
-        let mut words = self.words;
-        for i in 0..W {
-            words[i] &= other.words[i];
+        let and = |x: u64, y: u64| -> u64
+            ensures { result ≡ bit_and x y }
+        { x & y };
+        BitSet {
+            words: zip_words(&self.words, &other.words, and),
         }
-        BitSet { words }
     }
 
     // The members that `other` does not have.
     pub fn minus(&self, other: &Self) -> Self
         ensures { (i : ℕ) → member result.words i ≡ (member self.now.words i && not (member other.now.words i)) }
     {
-        let mut words = self.words;
-        for i in 0..W {
-            words[i] &= !other.words[i];
+        let minus = |x: u64, y: u64| -> u64
+            ensures { result ≡ bit_and x (2 ^ 64 - 1 - y) }
+        { x & !y };
+        BitSet {
+            words: zip_words(&self.words, &other.words, minus),
         }
-        BitSet { words }
     }
 
     pub fn lowest(&self) -> Option<usize>
@@ -142,6 +160,24 @@ impl<const W: usize> BitSet<W> {
     }
 }
 
+// Each word of `a` joined with that of `b` in its place. By index: nothing is known of the entries that `array::from_fn`
+// makes.
+fn zip_words<F: Fn(u64, u64) -> u64, const W: usize>(
+    a: &[u64; W],
+    b: &[u64; W],
+    join: F,
+) -> [u64; W]
+    requires { F.IsAlwaysCallable join }
+    ensures size { length result ≡ W }
+    ensures words { (k : ℕ) → k < W → F.post join (slice_index a.now k) (slice_index b.now k) (slice_index result k) }
+{
+    let mut words = *a;
+    for i in 0..W {
+        words[i] = join(a[i], b[i]);
+    }
+    words
+}
+
 // A word with the lowest `n` bits set, or all of them.
 fn low_ones(n: usize) -> u64
     ensures { result ≡ 2 ^ min n 64 - 1 }
@@ -149,7 +185,8 @@ fn low_ones(n: usize) -> u64
     if n < 64 { (1 << n) - 1 } else { u64::MAX }
 }
 
-// Two sets are equal just where they are one value, and that is just where they have the same members.
+// Two sets are equal just where they are one value, and that is just where they have the same members. A derive would not
+// promise this.
 impl<const W: usize> PartialEq for BitSet<W> {
     ghost eq = { λ a b. pointwise nat_eq a.words b.words };
 
@@ -162,8 +199,4 @@ impl<const W: usize> PartialEq for BitSet<W> {
     {
         self.words == other.words
     }
-}
-
-impl<const W: usize> Eq for BitSet<W> {
-    ghost laws = { on_equiv (λ s. s.words) nat_list_eq_equiv };
 }

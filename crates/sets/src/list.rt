@@ -1,7 +1,5 @@
 // A list with room for N elements.
-ghost use Rattle.std.specs.Prelude.{◌≡◌, ◌≤◌, length, ⊤};
-
-mod methods;
+ghost use Rattle.std.specs.Prelude.{◌≡◌, ◌<◌, ◌≤◌, [], ◌∷◌, ◌++◌, length, MatchResult, ◌==◌, ⊤};
 
 use std::alloc::AllocError;
 
@@ -13,6 +11,67 @@ pub struct ArrayVec<T, const N: usize> {
     ghost size: { length items ≡ N },
 }
 
+impl<T: Copy, const N: usize> ArrayVec<T, N> {
+    ghost use Rattle.std.specs.List.{slice_get};
+    ghost use Rattle.sets.specs.Contents.{contents};
+
+    // An empty list; `fill` only fills the room.
+    pub fn new(fill: T) -> Self
+        ensures { contents result ≡ [] }
+    {
+        ArrayVec {
+            items: [fill; N],
+            len: 0,
+        }
+    }
+
+    pub fn len(&self) -> usize
+        ensures { result ≡ length (contents self.now) }
+    {
+        self.as_slice().len()
+    }
+
+    pub fn is_empty(&self) -> bool
+        ensures { result ≡ (length (contents self.now) == 0) }
+    {
+        self.len() == 0
+    }
+
+    pub fn get(&self, i: usize) -> Option<T>
+        ensures { result ≡ slice_get (contents self.now) i }
+    {
+        self.as_slice().get(i).copied()
+    }
+
+    pub fn as_slice(&self) -> &[T]
+        ensures { result.now ≡ contents self.now }
+    {
+        &self.items[..self.len]
+    }
+
+    // Puts `x` at the end, or hands it back where there is no room.
+    pub fn push(&mut self, x: T) -> Result<(), T>
+        ensures { MatchResult result
+            (λ _. (length (contents self.old) < N) × (contents self.new ≡ contents self.old ++ x ∷ []))
+            (λ e. (length (contents self.old) ≡ N) × (self.new ≡ self.old) × (e ≡ x)) }
+    {
+        if self.len < N {
+            self.items[self.len] = x;
+            self.len += 1;
+            Ok(())
+        } else {
+            Err(x)
+        }
+    }
+
+    pub fn clear(&mut self)
+        ensures { contents self.new ≡ [] }
+    {
+        self.len = 0;
+    }
+}
+
+// Written out: no derive clones a struct with a type parameter and ghost fields.
 impl<T: Copy, const N: usize> Clone for ArrayVec<T, N> {
     ghost is_clone = { λ v w. w ≡ v };
 
@@ -24,3 +83,26 @@ impl<T: Copy, const N: usize> Clone for ArrayVec<T, N> {
 }
 
 impl<T: Copy, const N: usize> Copy for ArrayVec<T, N> {}
+
+// Two lists are equal where they hold the same elements; what stands behind them is not looked at, so no derive will do.
+impl<T: PartialEq + Copy, const N: usize> PartialEq for ArrayVec<T, N> {
+    ghost use Rattle.std.specs.Cmp.{on_per};
+    ghost use Rattle.std.specs.Cmp.Lexicographic.{lists_per, pointwise};
+    ghost use Rattle.sets.specs.Contents.{contents};
+
+    ghost eq = { λ v w. pointwise T.eq (contents v) (contents w) };
+
+    ghost laws = { on_per contents (lists_per T.PartialEq.laws) };
+
+    fn eq(&self, other: &Self) -> bool {
+        self.as_slice() == other.as_slice()
+    }
+}
+
+impl<T: Eq + Copy, const N: usize> Eq for ArrayVec<T, N> {
+    ghost use Rattle.std.specs.Cmp.{on_equiv};
+    ghost use Rattle.std.specs.Cmp.Lexicographic.{lists_equiv};
+    ghost use Rattle.sets.specs.Contents.{contents};
+
+    ghost laws = { on_equiv contents (lists_equiv T.Eq.laws) };
+}

@@ -1,5 +1,5 @@
 use Rattle.std.proofs.Common.{arith}
-use Rattle.sets.proofs.Kept.{word_usable, member_lowest, member_none}
+use Rattle.sets.proofs.Kept.{word_usable, member_lowest}
 use Rattle.sets.proofs.bits.BitSet.lowest.Goals as goal
 
 pub overflow_mul-result : goal.overflow_mul-result
@@ -11,6 +11,3 @@ overflow_add-result g c =
 
 pub returns-then-word-ne0 : goal.returns-then-word-ne0
 returns-then-word-ne0 g c = member_lowest c.args.self.now c.loop-i.i (omega arith) c.loop-i.invariant
-
-pub returns : goal.returns
-returns g c = member_none c.args.self.now.words c.loop-i.i (omega arith) c.loop-i.invariant

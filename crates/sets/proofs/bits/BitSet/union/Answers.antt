@@ -3,9 +3,8 @@ use Rattle.sets.proofs.bits.BitSet.union.Goals as goal
 
 pub invariant_of-result : goal.invariant_of-result
 invariant_of-result g c =
-    let s = sound_merged wordwise-or c.args.self.now c.args.other.now c.loop-i.words c.loop-i.i c.loop-i-test.false c.loop-i.invariant in
+    let s = sound_merged wordwise-or c.args.self.now c.args.other.now c.zip_words.result c.zip_words.ensures.size c.zip_words.ensures.words in
     record { size = s.0; fits = s.1; usable = s.2 }
 
 pub returns : goal.returns
-returns g c =
-    member_merged wordwise-or c.args.self.now c.args.other.now c.loop-i.words c.loop-i.i c.loop-i-test.false c.loop-i.invariant
+returns g c = member_merged wordwise-or c.args.self.now c.args.other.now c.zip_words.result c.zip_words.ensures.size c.zip_words.ensures.words
