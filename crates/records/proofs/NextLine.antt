@@ -1,11 +1,15 @@
 -- The line at the front of a text, and what is behind it.
-use Rattle.std.proofs.Common.{◌≡◌, ℕ, ◌+◌, ◌<◌, ◌≤◌, false, eqb, List, ◌∷◌, ◌++◌, length, drop, sym, refl, ap, ◌∙◌, arith, length-append, length-drop}
+use Rattle.std.proofs.Common.{◌≡◌, ℕ, ◌+◌, false, eqb, Ok, Err, Result, Option, List, ◌∷◌, ◌++◌, length, drop, sym, refl, ap, ◌∙◌, arith}
+use Rattle.std.specs.Result.{IsErrAnd}
 use Rattle.std.proofs.lemmas.List.{drop-drop, drop_at}
 use Rattle.std.proofs.lemmas.Bool.{eqb-false}
 use Rattle.text.specs.Fields.{Lacks, Cut}
 use Rattle.text.proofs.Cuts.{same_cut, no_cut}
 use Rattle.records.specs.Lines.{Line, Proper, text}
-use Rattle.records.specs.Reading.{NoLine}
+use Rattle.records.specs.Reading.{Next, NoLine, unread}
+use Rattle.records.specs.declared.fault.RecordFault.{RecordFault}
+use Rattle.records.specs.declared.reader.Reader.{Reader}
+use Rattle.records.specs.declared.record.Record.{Record}
 use Rattle.records.proofs.Spelling.{text_lacks}
 
 pub no_end : (bs : List ℕ) → Lacks 10 bs → NoLine bs
@@ -19,11 +23,10 @@ pub moved : (bs book line rest : List ℕ) (k : ℕ) → bs ≡ drop k book → 
 moved bs book line rest k at e =
     sym (drop-drop (length line + 1) k book) ∙ ap (drop (length line + 1)) (sym at ∙ e) ∙ sym (drop-drop 1 (length line) (line ++ 10 ∷ rest)) ∙ ap (drop 1) (drop_at line (10 ∷ rest) (length line) refl)
 
-pub within : (bs book line rest : List ℕ) (k : ℕ) → k ≤ length book → bs ≡ drop k book → bs ≡ line ++ 10 ∷ rest → k + (length line + 1) ≤ length book
-within bs book line rest k h at e = omega (arith, length-drop k book, ap length at, ap length e, length-append line (10 ∷ rest))
+pub front_line : (bs left line rest after t : List ℕ) → bs ≡ left → bs ≡ line ++ 10 ∷ rest → line ≡ t → after ≡ rest → left ≡ t ++ 10 ∷ after
+front_line bs left line rest after t a b d e = cc
 
-pub front_line : (bs unread line rest after t : List ℕ) → bs ≡ unread → bs ≡ line ++ 10 ∷ rest → line ≡ t → after ≡ rest → unread ≡ t ++ 10 ∷ after
-front_line bs unread line rest after t a b d e = cc
-
-pub some_left : (bs unread : List ℕ) → bs ≡ unread → false ≡ eqb (length bs) 0 → 0 < length unread
-some_left bs unread e f = omega (arith, ap length e, eqb-false (length bs) 0 (sym f))
+-- a refusal of what has no line at its front
+pub refused : (Q : RecordFault → Type 0) (r : Reader) (bs : List ℕ) (o : Result (Option Record) RecordFault) → bs ≡ unread r → false ≡ eqb (length bs) 0 → NoLine bs → IsErrAnd o Q → Next r o r
+refused Q r bs (Err e) at some none is = (omega (arith, ap length at, eqb-false (length bs) 0 (sym some)), rw at at none, refl)
+refused Q r bs (Ok x) at some none is = absurd is

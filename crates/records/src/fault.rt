@@ -14,6 +14,7 @@ pub enum RecordFault {
     Field(FieldFault),
 }
 
+// By hand: what would derive it wants a message for each case, and none is shown.
 impl From<FieldFault> for RecordFault {
     ghost from_gives = { λ e r. r ≡ Field e };
 

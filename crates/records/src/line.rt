@@ -6,7 +6,7 @@ ghost use Rattle.records.specs.Records.{ActSays, Says};
 ghost use Rattle.records.specs.Tabs.{◌·◌};
 
 use crate::fault::RecordFault;
-use crate::fields::{name_field, number_field, set_field};
+use crate::fields::{name_field, number_field, set, set_field};
 use crate::record::{Act, Edit, Record, Side};
 use crate::word::Word;
 use text::{FieldFault, cut, name, number, numbers};
@@ -20,7 +20,7 @@ fn act(bytes: &[u8]) -> Result<Act<'_>, FieldFault>
     let (price, rest) = number_field(rest)?;
     let (needs, rest) = set_field(rest)?;
     let (adds, rest) = set_field(rest)?;
-    let deletes = numbers(rest, true)?;
+    let deletes = set(rest)?;
     Ok(Act {
         name,
         price,
@@ -58,8 +58,8 @@ fn record_of(word: Word, fields: &[u8]) -> Result<Record<'_>, FieldFault>
     match word {
         Word::Fact => Ok(Record::Fact(name(fields)?)),
         Word::Act => Ok(Record::Act(act(fields)?)),
-        Word::Start => Ok(Record::Set(Side::Start, numbers(fields, true)?)),
-        Word::Goal => Ok(Record::Set(Side::Goal, numbers(fields, true)?)),
+        Word::Start => Ok(Record::Set(Side::Start, set(fields)?)),
+        Word::Goal => Ok(Record::Set(Side::Goal, set(fields)?)),
         Word::Step => Ok(Record::Step(number(fields)?)),
         Word::Swap => Ok(Record::Edit(Edit::Swap(number(fields)?))),
         Word::Group => {
@@ -87,11 +87,7 @@ pub fn read_record(line: &[u8]) -> Result<Record<'_>, RecordFault>
         (λ x. (l : Line) × Proper l × (line.now ≡ text_of l) × Says x l)
         (λ _. (l : Line) → Proper l → line.now ≢ text_of l) }
 {
-    let Some((first, fields)) = cut(line, b'\t') else {
-        return Err(RecordFault::Word);
-    };
-    let Some(word) = Word::read(first) else {
-        return Err(RecordFault::Word);
-    };
+    let (first, fields) = cut(line, b'\t').ok_or(RecordFault::Word)?;
+    let word = Word::try_from(first)?;
     Ok(record_of(word, fields)?)
 }

@@ -1,7 +1,10 @@
 // The words that a line of the book begins with.
-ghost use Rattle.std.specs.Prelude.{◌≡◌, MatchOption, ◌≢◌};
+ghost use Rattle.std.specs.Prelude.{◌≡◌, MatchResult, ◌≢◌};
 ghost use Rattle.records.specs.Words.{spelled};
+ghost use Rattle.records.specs.declared.fault.RecordFault.{RecordFault as AnyFault};
 ghost use Rattle.records.specs.declared.word.Word.{Word as AnyWord};
+
+use crate::fault::RecordFault;
 
 #[derive(Clone, Copy, PartialEq, Debug)]
 pub enum Word {
@@ -17,23 +20,25 @@ pub enum Word {
     Replace,
 }
 
-impl Word {
-    // The word with these bytes, if one has them.
-    pub fn read(bytes: &[u8]) -> Option<Word>
-        ensures { MatchOption result ((w : AnyWord) → bytes.now ≢ spelled w) (λ w. bytes.now ≡ spelled w) }
-    {
+// The word with these bytes, if one has them.
+impl TryFrom<&[u8]> for Word {
+    type Error = RecordFault;
+
+    ghost try_from_gives = { λ bs r. MatchResult r (λ w. bs.now ≡ spelled w) (λ e. (e ≡ AnyFault.Word) × ((w : AnyWord) → bs.now ≢ spelled w)) };
+
+    fn try_from(bytes: &[u8]) -> Result<Word, RecordFault> {
         match bytes {
-            b"fact" => Some(Word::Fact),
-            b"act" => Some(Word::Act),
-            b"start" => Some(Word::Start),
-            b"goal" => Some(Word::Goal),
-            b"step" => Some(Word::Step),
-            b"swap" => Some(Word::Swap),
-            b"group" => Some(Word::Group),
-            b"ungroup" => Some(Word::Ungroup),
-            b"loosen" => Some(Word::Loosen),
-            b"replace" => Some(Word::Replace),
-            _ => None,
+            b"fact" => Ok(Word::Fact),
+            b"act" => Ok(Word::Act),
+            b"start" => Ok(Word::Start),
+            b"goal" => Ok(Word::Goal),
+            b"step" => Ok(Word::Step),
+            b"swap" => Ok(Word::Swap),
+            b"group" => Ok(Word::Group),
+            b"ungroup" => Ok(Word::Ungroup),
+            b"loosen" => Ok(Word::Loosen),
+            b"replace" => Ok(Word::Replace),
+            _ => Err(RecordFault::Word),
         }
     }
 }

@@ -1,6 +1,8 @@
 -- A text is cut at a mark in one way only.
-use Rattle.std.proofs.Common.{◌≡◌, ℕ, List, [], ◌∷◌, ◌++◌, refl}
-use Rattle.text.specs.Fields.{Lacks}
+use Rattle.std.proofs.Common.{◌≡◌, ℕ, ◌<◌, ◌+◌, ◌≢◌, List, [], ◌∷◌, ◌++◌, length, get_or, take, drop, refl, arith}
+use Rattle.std.proofs.ByRecursion.{All-from_get_or}
+use Rattle.std.proofs.lemmas.List.{take-append-drop, drop_more, length-take, get_or-take}
+use Rattle.text.specs.Fields.{Cut, Lacks}
 
 -- t is empty, or begins with c
 abbrev pub Begins : ℕ → List ℕ → Type 0
@@ -25,6 +27,13 @@ same_cut c f g m n p q e =
     let both = same_parts c f g (c ∷ m) (c ∷ n) p q refl refl e in
     let rests = both.1 in
     (both.0, cc)
+
+-- the text is cut where c stands first
+pub cut_at : (c : ℕ) (bs : List ℕ) (i : ℕ) → i < length bs → get_or bs i 0 ≡ c → ((k : ℕ) → k < i → get_or bs k 0 ≢ c) → Cut c bs (take i bs) (drop (i + 1) bs)
+cut_at c bs i h here before =
+    let next = drop_more bs i 0 (omega arith) in
+    let whole = take-append-drop i bs in
+    (cc, All-from_get_or _ (take i bs) 0 (λ k in'. grind (arith, length-take {A = ℕ}, get_or-take {A = ℕ})))
 
 -- what lacks c has no cut at c
 pub no_cut : (c : ℕ) (f m : List ℕ) → Lacks c (f ++ c ∷ m) → ⊥

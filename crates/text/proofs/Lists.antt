@@ -23,25 +23,25 @@ same_first front t n ns lacks begins small e =
 
 same_more : (ms ns : List ℕ) → AllByRecursion Small ms → AllByRecursion Small ns → more ms ≡ more ns → ms ≡ ns
 same_more [] [] p q e = refl
-same_more [] (n ∷ ns) p q e = absurd (omega (arith, ap length e))
-same_more (m ∷ ms) [] p q e = absurd (omega (arith, ap length e))
+same_more [] (n ∷ ns) p q e = cc
+same_more (m ∷ ms) [] p q e = cc
 same_more (m ∷ ms) (n ∷ ns) p q e =
     let both = same_first (decimal m) (more ms) n ns (decimal_lacks 44 m (λ digit. omega arith) p.0) (begins_more ms) q.0 (cc) in
     let first = same_number (decimal m) m n (p.0, refl) (q.0, both.0) in
     let rest = same_more ms ns p.1 q.1 both.1 in
     cc
 
--- a list that is not empty begins with a digit
-first_digit : (n : ℕ) (ns : List ℕ) → Small n → IsInRange 48 57 (get_or (commas (n ∷ ns)) 0 0)
-first_digit n ns small =
+-- a list that has a number begins with a digit
+undashed : (n : ℕ) (ns : List ℕ) → Small n → commas [] ≡ commas (n ∷ ns) → ⊥
+undashed n ns small e =
     let some = decimal_nonempty n (omega arith) in
-    rw (get_or_append_left (decimal n) (more ns) 0 0 some) (digit_at (decimal n) 0 (digits_decimal numerals n (omega arith)) some)
+    omega (arith, digit_at (decimal n) 0 (digits_decimal numerals n (omega arith)) some, get_or_append_left (decimal n) (more ns) 0 0 some, ap (λ bs. get_or bs 0 0) e)
 
 -- a text is one list of numbers at most
 pub same_list : (bs ms ns : List ℕ) → IsList bs ms → IsList bs ns → ms ≡ ns
 same_list bs [] [] p q = refl
-same_list bs [] (n ∷ ns) p q = absurd (omega (arith, first_digit n ns q.0.0, ap (λ t. get_or t 0 0) (sym p.1 ∙ q.1)))
-same_list bs (m ∷ ms) [] p q = absurd (omega (arith, first_digit m ms p.0.0, ap (λ t. get_or t 0 0) (sym q.1 ∙ p.1)))
+same_list bs [] (n ∷ ns) p q = absurd (undashed n ns q.0.0 (sym p.1 ∙ q.1))
+same_list bs (m ∷ ms) [] p q = absurd (undashed m ms p.0.0 (sym q.1 ∙ p.1))
 same_list bs (m ∷ ms) (n ∷ ns) p q = same_more (m ∷ ms) (n ∷ ns) p.0 q.0 (ap (λ t. 44 ∷ t) (sym p.1 ∙ q.1))
 
 more_lacks : (c : ℕ) (ns : List ℕ) → (IsInRange 44 57 c → ⊥) → AllByRecursion Small ns → Lacks c (more ns)
@@ -66,8 +66,8 @@ more_behind (n ∷ ns) = refl
 
 same_behind : (t u : Option (List ℕ)) → behind t ≡ behind u → t ≡ u
 same_behind None None e = refl
-same_behind None (Some u) e = absurd (omega (arith, ap length e))
-same_behind (Some t) None e = absurd (omega (arith, ap length e))
+same_behind None (Some u) e = cc
+same_behind (Some t) None e = cc
 same_behind (Some t) (Some u) e = cc
 
 -- e has a text, of which the part before the first comma is front; e' has the others
@@ -86,7 +86,7 @@ module _ {e e' : Entries} {text front : List ℕ} (p : Parted e text front e') w
   parted_less = rw p.has (omega (arith, ap length p.whole, length-append front (behind (unread e'))))
 
   some_left : Left e [] → ⊥
-  some_left l = let z : ◌≡◌ {A = ℕ} 0 1 = cc (p.has, l.1) in omega arith
+  some_left l = cc (p.has, l.1)
 
   pub parted_reads : (n : ℕ) → IsNumber front n → Reads (Left e) (n ∷ []) e'
   parted_reads n is = record { lists = λ ns. (there ns, back ns) }
@@ -105,20 +105,10 @@ module _ {e e' : Entries} {text front : List ℕ} (p : Parted e text front e') w
   parted_broken none [] l = some_left l
   parted_broken none (n ∷ ns) l = none n (first_left n ns l).0
 
--- at the start, what is left is the list that the text is
-pub left_none : (e : Entries) (text : List ℕ) → unread e ≡ None → text ≡ commas [] → (ns : List ℕ) → Left e ns ↔ IsList text ns
-left_none e text none dash [] = (λ l. (tt, dash), λ l. (tt, none))
-left_none e text none dash (n ∷ ns) = (
-  λ l. let z : ◌≡◌ {A = ℕ} 0 1 = cc l.1 in absurd (omega arith),
-  λ l. absurd (omega (arith, first_digit n ns l.0.0, ap (λ bs. get_or bs 0 0) (sym dash ∙ l.1))),
-)
-
-pub left_some : (e : Entries) (text : List ℕ) → unread e ≡ Some text → (text ≡ commas [] → ⊥) → (ns : List ℕ) → Left e ns ↔ IsList text ns
-left_some e text some undashed [] = (
-  λ l. let z : ◌≡◌ {A = ℕ} 0 1 = cc l.1 in absurd (omega arith),
-  λ l. absurd (undashed l.1),
-)
-left_some e text some undashed (n ∷ ns) = (λ l. (l.0, cc l.1), λ l. (l.0, some ∙ ap Some l.1))
+-- nothing is left to read of the list that has no number
+pub none_left : (text : List ℕ) → text ≡ commas [] → (ns : List ℕ) → Left (record { rest = None }) ns ↔ IsList text ns
+none_left text dash [] = (λ l. (tt, dash), λ l. (tt, refl))
+none_left text dash (n ∷ ns) = (λ l. absurd (cc l.1), λ l. absurd (undashed n ns l.0.0 (sym dash ∙ l.1)))
 
 -- a loop over `next`: its start, its step and its ends
 module _ {P : List ℕ → Type 0} where

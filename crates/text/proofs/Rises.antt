@@ -23,11 +23,6 @@ from_rising low (n ∷ ns) first r = (
   from_rising (n + 1) ns (λ h. omega (arith, r 0 (omega arith))) (λ k h. rw (add-one k) (rw (add-one (suc k)) at (r (suc k) (omega arith)))),
 )
 
--- a rising list has nothing smaller than its places
-pub rising_ge : (ns : List ℕ) → Rising ns → (k : ℕ) → k < length ns → k ≤ get_or ns k 0
-rising_ge ns r zero h = zero-le
-rising_ge ns r (suc k) h = rw (← add-one k) (omega (arith, r k (omega arith), rising_ge ns r k (omega arith)))
-
 -- some list is left of e that rises from low, where it has to
 abbrev pub SomeLeft : Bool → Entries → ℕ → Type 0
 SomeLeft rising e low = (ns : List ℕ) × Left e ns × (rising ≡ true → RisesFrom low ns)
@@ -43,6 +38,3 @@ some_more rising e e' low n reads fits = (
   λ s. let next = (reads.lists s.0).0 s.1 in (next.0, next.2, λ must. (rw next.1 at (s.2 must)).1),
   λ s. (n ∷ s.0, (reads.lists (n ∷ s.0)).1 (s.0, refl, s.1), λ must. (fits must, s.2 must)),
 )
-
-pub some_fits : (rising : Bool) (e e' : Entries) (low n : ℕ) → Reads (Left e) (n ∷ []) e' → SomeLeft rising e low → rising ≡ true → low ≤ n
-some_fits rising e e' low n reads s must = (rw ((reads.lists s.0).0 s.1).1 at (s.2 must)).0

@@ -18,15 +18,13 @@ impl<'a> Entries<'a> {
     pub fn new(text: &'a [u8]) -> Self
         ensures { (ns : List ℕ) → Left result ns ↔ IsList text.now ns }
     {
-        let rest = if text == b"-".as_slice() {
-            None
-        } else {
-            Some(text)
-        };
-        Entries { rest }
+        match text {
+            b"-" => Entries { rest: None },
+            _ => Entries { rest: Some(text) },
+        }
     }
 
-    // The next number, if one is left. What is no list is refused, and stays as it is.
+    // The next number, if one is left. What is no list is refused, and stays as it is: an iterator would have to end there.
     pub fn next(&mut self) -> Result<Option<u32>, FieldFault>
         ensures { NextGives self.old result self.new }
     {
@@ -34,9 +32,7 @@ impl<'a> Entries<'a> {
             return Ok(None);
         };
         let (front, others) = Self::parted(text);
-        let Ok(n) = number(front) else {
-            return Err(FieldFault::List);
-        };
+        let n = number(front).map_err(|_| FieldFault::List)?;
         *self = others;
         Ok(Some(n))
     }

@@ -1,14 +1,8 @@
-use Rattle.std.proofs.Common.{sym, refl, arith}
-use Rattle.std.proofs.lemmas.Result.{err_from_is_err_and}
+use Rattle.std.proofs.Common.{arith, rules}
+use Rattle.text.specs.Fields.{IsName}
 use Rattle.text.proofs.Numerals.{name_lacks}
-use Rattle.records.proofs.FirstField.{no_field, same_field}
+use Rattle.records.proofs.FirstField.{exact_field, own_text}
 use Rattle.records.proofs.fields.name_field.Goals as goal
 
-pub returns-in_default : goal.returns-in_default
-returns-in_default c = (refl, λ q h. no_field _ q.0 q.1 c.in_default.ensures h.1)
-
-pub returns-in_err-name : goal.returns-in_err-name
-returns-in_err-name c =
-    let p = err_from_is_err_and c.from_residual.result c.from_residual.ensures.1 in
-    let no = c.in_err-name.ensures in
-    rw (p.1, p.2) (no.0, λ q h. no.1 q.0 (sym (same_field _ _ _ q.0 q.1 c.in-Some.ensures (name_lacks 9 q.0 (λ p. omega arith) h.0) h.1).0, h.0))
+pub returns : goal.returns
+returns c = exact_field (λ s. s.now) _ IsName (λ bs. bs) (λ a n. name_lacks 9 a (λ p. omega arith) n) _ c.args.bytes.now c.field.result c.field.ensures (λ front r k. own_text _ IsName front.now r (search rules))

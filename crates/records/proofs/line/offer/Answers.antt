@@ -1,7 +1,6 @@
-use Rattle.std.proofs.Common.{◌≡◌, ℕ, List, decimal, sym, refl}
+use Rattle.std.proofs.Common.{sym, refl}
 use Rattle.std.proofs.lemmas.Result.{MatchResult-from_err}
 use Rattle.text.specs.Fields.{commas}
-use Rattle.records.specs.Tabs.{◌·◌}
 use Rattle.records.proofs.FirstField.{past_number}
 use Rattle.records.proofs.line.offer.Goals as goal
 
@@ -22,14 +21,3 @@ returns-in_err-numbers c =
     let m = c.in_ok-last.ensures in
     let e₂ = (past_number _ _ _ b _ m.0 t m.1 e₁).1 in
     c.in_err-numbers.ensures.1 (commas list) (sym e₂, (list, u, refl)))
-
-whole_offer : (bs : List ℕ) (a : ℕ) (r₁ : List ℕ) (b : ℕ) (r₂ t list : List ℕ) → bs ≡ decimal a · r₁ → r₁ ≡ decimal b · r₂ → t ≡ r₂ → t ≡ commas list → bs ≡ decimal a · decimal b · commas list
-whole_offer bs a r₁ b r₂ t list e f g h = cc
-
-pub returns : goal.returns
-returns c =
-    let n = c.in_ok-first.ensures in
-    let m = c.in_ok-last.ensures in
-    let u = c.in_ok-numbers.ensures in
-    let l = u.1 in
-    (n.0, m.0, (l.0, l.1, l.2, whole_offer _ _ _ _ _ _ l.0 n.1 m.1 u.0 l.2))

@@ -14,55 +14,43 @@ no_start bs none l p w e = grind arith
 no_goal : (bs : List ℕ) → ((set : List ℕ) → IsFactSet set → bs ≡ commas set → ⊥) → (l : Line) → Proper l → word l ≡ Goal → bs ≡ fields l → ⊥
 no_goal bs none l p w e = grind arith
 
-pub returns-in_err-numbers-in-Start : goal.returns-in_err-numbers-in-Start
-returns-in_err-numbers-in-Start c =
-    MatchResult-from_err _ _ _ c.from_residual-in_err-numbers-in-Start.ensures.0 (λ _ l p w. no_start _ (λ set q e. c.in_err-numbers-in-Start.ensures.1 _ (refl, (set, q, e))) l p (w ∙ c.in-Start.is))
+pub returns-in_err-set-in-Start : goal.returns-in_err-set-in-Start
+returns-in_err-set-in-Start c =
+    MatchResult-from_err _ _ _ c.from_residual-in_err-set-in-Start.ensures.0 (λ _ l p w. no_start _ (λ set q e. c.in_err-set-in-Start.ensures.1 _ (refl, (set, q, e))) l p (w ∙ c.in-Start.is))
 
-pub returns-in_err-numbers-in-Goal : goal.returns-in_err-numbers-in-Goal
-returns-in_err-numbers-in-Goal c =
-    MatchResult-from_err _ _ _ c.from_residual-in_err-numbers-in-Goal.ensures.0 (λ _ l p w. no_goal _ (λ set q e. c.in_err-numbers-in-Goal.ensures.1 _ (refl, (set, q, e))) l p (w ∙ c.in-Goal.is))
+pub returns-in_err-set-in-Goal : goal.returns-in_err-set-in-Goal
+returns-in_err-set-in-Goal c =
+    MatchResult-from_err _ _ _ c.from_residual-in_err-set-in-Goal.ensures.0 (λ _ l p w. no_goal _ (λ set q e. c.in_err-set-in-Goal.ensures.1 _ (refl, (set, q, e))) l p (w ∙ c.in-Goal.is))
 
 pub returns-in_ok-act-in-Act : goal.returns-in_ok-act-in-Act
 returns-in_ok-act-in-Act c = let a = c.in_ok-act-in-Act.ensures in (act a.0, a.1, sym c.in-Act.is, a.2, (a.0, refl, a.3))
 
-pub returns-in_ok-numbers-in-Start : goal.returns-in_ok-numbers-in-Start
-returns-in_ok-numbers-in-Start c =
-    let n = c.in_ok-numbers-in-Start.ensures in
+pub returns-in_ok-set-in-Start : goal.returns-in_ok-set-in-Start
+returns-in_ok-set-in-Start c =
+    let n = c.in_ok-set-in-Start.ensures in
     let s = n.1 in
     (start s.0, s.1, sym c.in-Start.is, sym n.0 ∙ s.2, (s.0, refl, s.2))
 
-pub returns-in_ok-numbers-in-Goal : goal.returns-in_ok-numbers-in-Goal
-returns-in_ok-numbers-in-Goal c =
-    let n = c.in_ok-numbers-in-Goal.ensures in
+pub returns-in_ok-set-in-Goal : goal.returns-in_ok-set-in-Goal
+returns-in_ok-set-in-Goal c =
+    let n = c.in_ok-set-in-Goal.ensures in
     let s = n.1 in
     (goal' s.0, s.1, sym c.in-Goal.is, sym n.0 ∙ s.2, (s.0, refl, s.2))
 
 pub returns-in_ok-number-in-Swap : goal.returns-in_ok-number-in-Swap
-returns-in_ok-number-in-Swap c =
-    let n = c.in_ok-number-in-Swap.ensures in
-    (edit (swap c.in_ok-number-in-Swap.field-0), n.0, sym c.in-Swap.is, n.1, (swap c.in_ok-number-in-Swap.field-0, refl, refl))
+returns-in_ok-number-in-Swap c = let n = c.in_ok-number-in-Swap.ensures in (edit (swap _), n.0, sym c.in-Swap.is, n.1, (swap _, refl, refl))
 
 pub returns-in_ok-first-in-Group : goal.returns-in_ok-first-in-Group
-returns-in_ok-first-in-Group c =
-    let n = c.in_ok-first-in-Group.ensures in
-    let e = group c.in_ok-first-in-Group.first c.in_ok-first-in-Group.last in
-    (edit e, (n.0, n.1), sym c.in-Group.is, n.2, (e, refl, refl))
+returns-in_ok-first-in-Group c = let n = c.in_ok-first-in-Group.ensures in (edit (group _ _), (n.0, n.1), sym c.in-Group.is, n.2, (group _ _, refl, refl))
 
 pub returns-in_ok-first-in-Ungroup : goal.returns-in_ok-first-in-Ungroup
-returns-in_ok-first-in-Ungroup c =
-    let n = c.in_ok-first-in-Ungroup.ensures in
-    let e = ungroup c.in_ok-first-in-Ungroup.first c.in_ok-first-in-Ungroup.last in
-    (edit e, (n.0, n.1), sym c.in-Ungroup.is, n.2, (e, refl, refl))
+returns-in_ok-first-in-Ungroup c = let n = c.in_ok-first-in-Ungroup.ensures in (edit (ungroup _ _), (n.0, n.1), sym c.in-Ungroup.is, n.2, (ungroup _ _, refl, refl))
 
 pub returns-in_ok-before-in-Loosen : goal.returns-in_ok-before-in-Loosen
-returns-in_ok-before-in-Loosen c =
-    let n = c.in_ok-before-in-Loosen.ensures in
-    let e = loosen c.in_ok-before-in-Loosen.before c.in_ok-before-in-Loosen.behind in
-    (edit e, (n.0, n.1), sym c.in-Loosen.is, n.2, (e, refl, refl))
+returns-in_ok-before-in-Loosen c = let n = c.in_ok-before-in-Loosen.ensures in (edit (loosen _ _), (n.0, n.1), sym c.in-Loosen.is, n.2, (loosen _ _, refl, refl))
 
 pub returns-in_ok-first-in-Replace : goal.returns-in_ok-first-in-Replace
 returns-in_ok-first-in-Replace c =
     let n = c.in_ok-first-in-Replace.ensures in
     let l = n.2 in
-    let e = replace c.in_ok-first-in-Replace.first c.in_ok-first-in-Replace.last l.0 in
-    (edit e, (n.0, n.1, l.1), sym c.in-Replace.is, l.3, (e, refl, (l.0, refl, l.2)))
+    (edit (replace _ _ l.0), (n.0, n.1, l.1), sym c.in-Replace.is, l.3, (replace _ _ l.0, refl, (l.0, refl, l.2)))

@@ -1,5 +1,5 @@
 use Rattle.std.proofs.Common.{[], refl, arith}
-use Rattle.text.proofs.Rises.{some_fits, some_list, some_more}
+use Rattle.text.proofs.Rises.{some_list, some_more}
 use Rattle.text.proofs.list.numbers.Goals as goal
 
 pub loop-n-init : goal.loop-n-init
@@ -11,14 +11,6 @@ loop-n-preserved c =
     let step = some_more c.args.rising _ _ c.loop-n.least c.in-Some.n next.2 (λ must. grind (arith, c.else-rising.either)) in
     let whole = c.loop-n.invariant in
     (λ s. whole.0 (step.1 s), λ s. step.0 (whole.1 s))
-
-pub returns-then-n-least : goal.returns-then-n-least
-returns-then-n-least c = (
-  refl,
-  λ bs h.
-      let next = rw c.in-Some.is at c.in_ok-n.ensures in
-      omega (arith, some_fits c.args.rising _ _ c.loop-n.least c.in-Some.n next.2 (c.loop-n.invariant.1 (rw h.0 at h.1)) c.if-rising.true),
-)
 
 pub returns : goal.returns
 returns c =

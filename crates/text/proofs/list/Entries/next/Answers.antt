@@ -1,4 +1,6 @@
-use Rattle.std.proofs.Common.{refl, ap}
+use Rattle.std.proofs.Common.{refl, rules, ap}
+use Rattle.std.proofs.lemmas.Result.{err_from_is_err_and}
+use Rattle.text.specs.Fields.{IsNumber}
 use Rattle.text.specs.Readers.{unread}
 use Rattle.text.proofs.Lists.{Parted, parted_broken, parted_less, parted_reads}
 use Rattle.text.proofs.list.Entries.next.Goals as goal
@@ -11,11 +13,13 @@ parted c = record {
   lacks = c.parted.ensures.1;
 }
 
-pub returns-in_default-number : goal.returns-in_default-number
-returns-in_default-number c = (refl, refl, parted_broken (parted (goal.at.returns-in_default-number c).After-parted) c.in_default-number.ensures.1)
+pub returns-in_err-n : goal.returns-in_err-n
+returns-in_err-n c =
+    let p = err_from_is_err_and c.from_residual.result c.from_residual.ensures.1 in
+    rw (p.1, p.2) (search rules, refl, parted_broken (parted (goal.at.returns-in_err-n c).After-parted) (λ n is. search rules))
 
 pub returns : goal.returns
 returns c =
     let p = parted (goal.at.returns c).After-parted in
-    let is = c.in-Ok.ensures in
-    (is.0, parted_less p, parted_reads p c.in-Ok.n is)
+    let is : IsNumber c.parted.result.0.now c.in_ok-n.n = search rules in
+    (is.0, parted_less p, parted_reads p c.in_ok-n.n is)
