@@ -1,3 +1,4 @@
+pub mod Commas
 pub mod Described
 pub mod Gathers
 pub mod Placed

@@ -1,7 +1,7 @@
 -- The rule of sequence and bounds, line by line: which line may follow those before it.
 use Rattle.std.proofs.Common.{◌≡◌, ℕ, ◌+◌, ◌<◌, ◌≤◌, List, [], ◌∷◌, ◌++◌, map, length, fold, refl, ap, subst, ⊎_elim, arith}
 use Rattle.std.specs.List.{AllByRecursion}
-use Rattle.std.proofs.ByRecursion.{All-append}
+use Rattle.std.proofs.ByRecursion.{All-append, All-push}
 use Rattle.std.proofs.lemmas.List.{length_push}
 use Rattle.std.proofs.lemmas.Bool.{cases_lt, cases_eq}
 use Rattle.book.specs.Joining.{stage, May, with_line}
@@ -186,7 +186,7 @@ all_parts P [] ys a = (tt, a)
 all_parts P (x ∷ xs) ys a = let r = all_parts P xs ys a.1 in ((a.0, r.0), r.1)
 
 pub sound_push : (ls : List Line) (l : Line) → Sound ls → Proper l → MayFollow ls l → Sound (ls ++ l ∷ [])
-sound_push ls l f p m = (follow_append 0 no_week ls (l ∷ []) f.0 (m, tt), All-append Proper ls (l ∷ []) f.1 (p, tt))
+sound_push ls l f p m = (follow_append 0 no_week ls (l ∷ []) f.0 (m, tt), All-push Proper ls l f.1 p)
 
 -- every book so far can be brought to its end
 pub sound_begins : (ls : List Line) → Sound ls → Begins ls

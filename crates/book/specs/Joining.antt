@@ -11,12 +11,12 @@ use Rattle.book.specs.declared.loader.Loader.{Loader}
 
 -- a week with one line more
 abbrev pub with_line : Week → Line → Week
-with_line w (fact x) = record { facts = w.facts ++ x ∷ []; deeds = w.deeds; starts = w.starts; goals = w.goals; steps = w.steps; changes = w.changes }
-with_line w (act d) = record { facts = w.facts; deeds = w.deeds ++ d ∷ []; starts = w.starts; goals = w.goals; steps = w.steps; changes = w.changes }
-with_line w (start s) = record { facts = w.facts; deeds = w.deeds; starts = s; goals = w.goals; steps = w.steps; changes = w.changes }
-with_line w (goal s) = record { facts = w.facts; deeds = w.deeds; starts = w.starts; goals = s; steps = w.steps; changes = w.changes }
-with_line w (step a) = record { facts = w.facts; deeds = w.deeds; starts = w.starts; goals = w.goals; steps = w.steps ++ a ∷ []; changes = w.changes }
-with_line w (edit c) = record { facts = w.facts; deeds = w.deeds; starts = w.starts; goals = w.goals; steps = w.steps; changes = w.changes ++ c ∷ [] }
+with_line w (fact x) = record w { facts = w.facts ++ x ∷ [] }
+with_line w (act d) = record w { deeds = w.deeds ++ d ∷ [] }
+with_line w (start s) = record w { starts = s }
+with_line w (goal s) = record w { goals = s }
+with_line w (step a) = record w { steps = w.steps ++ a ∷ [] }
+with_line w (edit c) = record w { changes = w.changes ++ c ∷ [] }
 
 -- the stage that a line leads to: 0 facts, 1 acts, 2 the start, 3 the goal and the steps, 4 the edits
 abbrev pub stage : Line → ℕ

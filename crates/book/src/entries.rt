@@ -4,7 +4,7 @@ ghost use Rattle.text.specs.Fields.{IsList};
 ghost use Rattle.book.specs.Tasks.{Has};
 ghost use Rattle.book.specs.Weeks.{Known};
 
-use task::{Facts, Task};
+use task::{Facts, LONGEST_LIST, Task};
 use text::Entries;
 
 // The set that the text writes, if it names only facts of the task.
@@ -15,35 +15,19 @@ pub fn known_facts(text: &[u8], task: &Task) -> Option<Facts>
 {
     let mut set = Facts::empty();
     let mut entries = Entries::new(text);
-    while let Ok(next) = entries.next() {
-        let Some(n) = next else {
-            return Some(set);
-        };
+    while let Some(n) = entries.next().ok()? {
         let fact = n as usize;
         if fact >= task.facts {
-            break;
+            return None;
         }
         set.insert(fact);
     }
-    None
+    Some(set)
 }
 
-const LONGEST_LIST: usize = 128;
-
-// Whether the list that the text writes has at most 128 entries.
+// Whether the list that the text writes has at most 128 entries: a comma stands between two.
 pub fn is_short(text: &[u8]) -> bool
     ensures { (list : List ℕ) → IsList text.now list → MatchBool result (length list ≤ 128) (128 < length list) }
 {
-    let mut count = 0;
-    let mut entries = Entries::new(text);
-    while let Ok(next) = entries.next() {
-        let Some(_) = next else {
-            return true;
-        };
-        if count == LONGEST_LIST {
-            break;
-        }
-        count += 1;
-    }
-    false
+    text.iter().filter(|byte| **byte == b',').count() < LONGEST_LIST
 }

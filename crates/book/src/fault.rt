@@ -2,8 +2,10 @@
 ghost use Rattle.std.specs.Prelude.{◌≡◌};
 ghost use Rattle.book.specs.Faults.{at_line, line_of, number_of};
 ghost use Rattle.book.specs.declared.fault.LoadFault.TheVariants.{Form, Turn};
+ghost use Rattle.book.specs.declared.fault.TurnFault.TheVariants.{Full as no_room};
 
 use records::fault::RecordFault;
+use task::Full;
 
 // Why a record may not stand where it does.
 #[derive(Clone, Copy, Debug, PartialEq)]
@@ -18,6 +20,14 @@ pub enum TurnFault {
     Unknown,
     // the text ends before its goal line
     End,
+}
+
+impl From<Full> for TurnFault {
+    ghost from_gives = { λ _ r. r ≡ no_room };
+
+    fn from(_: Full) -> TurnFault {
+        TurnFault::Full
+    }
 }
 
 // A fault and the line that it was found at.
@@ -55,10 +65,7 @@ impl From<At<TurnFault>> for LoadFault {
 pub fn placed<T, F>(line: usize, r: Result<T, F>) -> Result<T, At<F>>
     ensures { result ≡ at_line line r }
 {
-    match r {
-        Ok(x) => Ok(x),
-        Err(fault) => Err(At { line, fault }),
-    }
+    r.map_err(|fault| At { line, fault })
 }
 
 impl LoadFault {

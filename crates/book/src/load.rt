@@ -4,6 +4,7 @@ ghost use Rattle.std.specs.Prelude.{◌≡◌, MatchResult};
 
 use crate::fault::{At, LoadFault, TurnFault, placed};
 use crate::loader::Loader;
+use crate::stage::Stage;
 use records::reader::Reader;
 use task::{Plan, Task};
 
@@ -19,15 +20,12 @@ fn gather(book: &[u8]) -> Result<Loader, LoadFault>
     }
     let mut reader = Reader::new(book);
     let mut loader = Loader::new();
-    loop {
-        let line = reader.line();
-        let Some(next) = placed(line, reader.next())? else {
-            break;
-        };
+    let mut line = reader.line();
+    while let Some(next) = placed(line, reader.next())? {
         placed(line, loader.accept(next))?;
+        line = reader.line();
     }
-    if loader.stage.rank() < 3 {
-        let line = reader.line();
+    if loader.stage < Stage::Steps {
         return Err(LoadFault::Turn(At {
             line,
             fault: TurnFault::End,
@@ -40,13 +38,8 @@ fn store(loader: Loader, task: &mut Task, plan: &mut Plan)
     ensures task { task.new ≡ loader.task }
     ensures plan { plan.new ≡ loader.plan }
 {
-    let Loader {
-        stage: _,
-        task: loaded,
-        plan: steps,
-    } = loader;
-    *task = loaded;
-    *plan = steps;
+    *task = loader.task;
+    *plan = loader.plan;
 }
 
 // Fills the task and the plan from the book; where it is refused, both are empty.
@@ -54,14 +47,7 @@ pub fn load(book: &[u8], task: &mut Task, plan: &mut Plan) -> Result<(), LoadFau
     ensures says { Loads book.now result task.new plan.new }
     ensures round_trip { RoundTrip book.now result task.new plan.new }
 {
-    match gather(book) {
-        Ok(loader) => {
-            store(loader, task, plan);
-            Ok(())
-        }
-        Err(fault) => {
-            store(Loader::new(), task, plan);
-            Err(fault)
-        }
-    }
+    store(Loader::new(), task, plan);
+    store(gather(book)?, task, plan);
+    Ok(())
 }

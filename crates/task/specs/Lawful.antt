@@ -1,4 +1,4 @@
--- Prices by a task are lawful. This stands in specs/ since the tariffs' ghost members give it.
+-- Prices by a task are lawful. This stands in specs/ since the tariffs' impls cite it.
 use Rattle.std.specs.Prelude.{ℕ, ◌≤◌, Some, None, Option}
 use Rattle.std.proofs.Common.{ap, arith}
 use Rattle.std.proofs.lemmas.Option.{slice_get_past}

@@ -1,9 +1,7 @@
 // Facts, and the actions that put them up and take them down.
-ghost use Rattle.std.specs.Prelude.{◌≤◌};
+ghost use Rattle.std.specs.Prelude.{◌≡◌, ℕ, ◌<◌, ◌≤◌, MatchOption};
 
 use sets::bits::BitSet;
-
-mod methods;
 
 // A set of facts; a fact is a number from 0 to 63.
 pub type Facts = BitSet<1>;
@@ -15,4 +13,35 @@ pub struct Action {
     pub deletes: Facts,
     pub price: u32,
     ghost affordable: { price ≤ 1000000 },
+}
+
+impl Action {
+    ghost use Rattle.sets.specs.Member.{member};
+    ghost use Rattle.task.specs.Perform.{after};
+
+    pub const HIGHEST_PRICE: u32 = 1_000_000;
+
+    // None exactly where the price is too high.
+    pub fn new(needs: Facts, adds: Facts, deletes: Facts, price: u32) -> Option<Action>
+        ensures { MatchOption result (1000000 < price)
+            (λ a. (price ≤ 1000000) × (a.needs ≡ needs) × (a.adds ≡ adds) × (a.deletes ≡ deletes) × (a.price ≡ price)) }
+    {
+        if price <= Self::HIGHEST_PRICE {
+            Some(Action {
+                needs,
+                adds,
+                deletes,
+                price,
+            })
+        } else {
+            None
+        }
+    }
+
+    // The facts that stand once the action is performed: a fact that it both deletes and adds is one of them.
+    pub fn perform(&self, standing: &Facts) -> Facts
+        ensures { (f : ℕ) → member result.words f ≡ after self.now (member standing.now.words) f }
+    {
+        standing.minus(&self.deletes).union(&self.adds)
+    }
 }

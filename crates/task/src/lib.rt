@@ -7,7 +7,7 @@ mod tasks;
 
 pub use actions::{Action, Facts};
 pub use tariffs::{BookTariff, Tariff, TooLong, TouchTariff, price_of_list};
-pub use tasks::{Plan, Task};
+pub use tasks::{Full, LONGEST_LIST, Plan, Task};
 
 #[cfg(test)]
 mod tests;

@@ -4,27 +4,25 @@ ghost use Rattle.task.specs.Lawful.{book_lawful, touch_lawful};
 ghost use Rattle.task.specs.Prices.{Lawful, priced, touches};
 
 use crate::actions::{Action, Facts};
-use crate::tasks::Task;
-
-const LONGEST_LIST: usize = 128;
+use crate::tasks::{LONGEST_LIST, Task};
 
 // A price for each action, by its number.
 pub trait Tariff {
     // No price of this kind of tariff is higher.
     const HIGHEST: u32;
 
-    ghost prices: { Self → ℕ → ℕ };
-
     ghost highest: { ℕ };
-    // A member and not a `law`, since an impl for a type that borrows can give no law.
-    ghost lawful: { (t : Self) → Lawful highest (prices t) };
+
+    ghost prices: { Self → ℕ → ℕ };
 
     fn price(&self, action: u32) -> u32
         ensures { result ≡ prices self.now action };
 
-    // `HIGHEST`, tied to what the ghost members say.
+    // `HIGHEST`, tied to `highest` by a function: for a type that borrows, the constant itself cannot be.
     fn most() -> u32
         ensures { result ≡ highest };
+
+    ghost lawful: { (t : Self) → Lawful highest (prices t) };
 }
 
 // The prices that the task gives its actions.
@@ -33,7 +31,7 @@ pub struct BookTariff<'a> {
     pub task: &'a Task,
 }
 
-impl<'a> Tariff for BookTariff<'a> {
+impl Tariff for BookTariff<'_> {
     const HIGHEST: u32 = Action::HIGHEST_PRICE;
 
     ghost prices = { λ t. priced (λ a. a.price) t.task.now };
@@ -43,10 +41,7 @@ impl<'a> Tariff for BookTariff<'a> {
     ghost lawful = { λ t. book_lawful t.task.now };
 
     fn price(&self, action: u32) -> u32 {
-        match self.task.action(action) {
-            Some(a) => a.price,
-            None => 0,
-        }
+        self.task.action(action).map_or(0, |a| a.price)
     }
 
     fn most() -> u32
@@ -63,7 +58,7 @@ pub struct TouchTariff<'a> {
     pub marked: Facts,
 }
 
-impl<'a> Tariff for TouchTariff<'a> {
+impl Tariff for TouchTariff<'_> {
     const HIGHEST: u32 = 64;
 
     ghost prices = { λ t. priced (touches t.marked) t.task.now };
@@ -73,6 +68,7 @@ impl<'a> Tariff for TouchTariff<'a> {
     ghost lawful = { λ t. touch_lawful t.marked t.task.now };
 
     fn price(&self, action: u32) -> u32 {
+        // No `map_or`: nothing is known of what a closure answers that borrows the marked set.
         match self.task.action(action) {
             Some(a) => self.marked.intersection(&a.adds.union(&a.deletes)).count() as u32,
             None => 0,
@@ -87,7 +83,7 @@ impl<'a> Tariff for TouchTariff<'a> {
 }
 
 // The refusal of a list with more entries than a plan can have.
-#[derive(Clone, Copy)]
+#[derive(Clone, Copy, Debug, PartialEq, Eq)]
 pub struct TooLong;
 
 impl TooLong {

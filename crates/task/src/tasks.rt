@@ -1,5 +1,5 @@
 // A task: its facts, its actions, where it starts and what it is to reach.
-ghost use Rattle.std.specs.Prelude.{◌≡◌, ℕ, ◌+◌, ◌<◌, ◌≤◌, false, [], ◌∷◌, ◌++◌, length, MatchBool};
+ghost use Rattle.std.specs.Prelude.{◌≡◌, ℕ, ◌+◌, ◌<◌, ◌≤◌, false, [], ◌∷◌, ◌++◌, length, MatchResult};
 ghost use Rattle.std.specs.List.{slice_get};
 ghost use Rattle.sets.specs.Contents.{contents};
 ghost use Rattle.sets.specs.Member.{member};
@@ -7,8 +7,15 @@ ghost use Rattle.sets.specs.Member.{member};
 use crate::actions::{Action, Facts};
 use sets::list::ArrayVec;
 
+// A plan has at most so many steps, and a list of actions so many entries.
+pub const LONGEST_LIST: usize = 128;
+
 // The actions to perform, first to last, by their numbers.
-pub type Plan = ArrayVec<u32, 128>;
+pub type Plan = ArrayVec<u32, LONGEST_LIST>;
+
+// No room for one more.
+#[derive(Clone, Copy, Debug, PartialEq, Eq)]
+pub struct Full;
 
 // The facts are the numbers below `facts`; the number of an action is its place among the actions.
 #[derive(Drop)]
@@ -53,30 +60,30 @@ impl Task {
     }
 
     // One more fact, unless there are 64.
-    pub fn add_fact(&mut self) -> bool
-        ensures facts { MatchBool result
-            ((self.old.facts < 64) × (self.new.facts ≡ self.old.facts + 1))
-            ((self.old.facts ≡ 64) × (self.new.facts ≡ 64)) }
+    pub fn add_fact(&mut self) -> Result<(), Full>
+        ensures facts { MatchResult result
+            (λ _. (self.old.facts < 64) × (self.new.facts ≡ self.old.facts + 1))
+            (λ _. (self.old.facts ≡ 64) × (self.new.facts ≡ 64)) }
         ensures actions { self.new.actions ≡ self.old.actions }
         ensures start { self.new.start ≡ self.old.start }
         ensures goal { self.new.goal ≡ self.old.goal }
     {
-        let has_room = self.facts < Self::MOST_FACTS;
-        if has_room {
-            self.facts += 1;
+        if self.facts >= Self::MOST_FACTS {
+            return Err(Full);
         }
-        has_room
+        self.facts += 1;
+        Ok(())
     }
 
     // One more action, behind the others, unless there are 128.
-    pub fn add_action(&mut self, action: Action) -> bool
-        ensures actions { MatchBool result
-            ((length (contents self.old.actions) < 128) × (contents self.new.actions ≡ contents self.old.actions ++ action ∷ []))
-            ((length (contents self.old.actions) ≡ 128) × (self.new.actions ≡ self.old.actions)) }
+    pub fn add_action(&mut self, action: Action) -> Result<(), Full>
+        ensures actions { MatchResult result
+            (λ _. (length (contents self.old.actions) < 128) × (contents self.new.actions ≡ contents self.old.actions ++ action ∷ []))
+            (λ _. (length (contents self.old.actions) ≡ 128) × (self.new.actions ≡ self.old.actions)) }
         ensures facts { self.new.facts ≡ self.old.facts }
         ensures start { self.new.start ≡ self.old.start }
         ensures goal { self.new.goal ≡ self.old.goal }
     {
-        self.actions.push(action).is_ok()
+        self.actions.push(action).map_err(|_| Full)
     }
 }

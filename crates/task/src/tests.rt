@@ -66,9 +66,9 @@ fn prices(rt: HostRuntime) -> Result<(), Fail> {
         assert_eq!(rt; book.price(action), price);
         assert_eq!(rt; touch.price(action), touches);
     }
-    assert_eq!(rt; price_of_list(&book, &[127; 128]).ok(), Some(1280));
-    assert_eq!(rt; price_of_list(&touch, &[127; 128]).ok(), Some(256));
-    assert!(rt; price_of_list(&book, &[128; 129]).is_err());
+    assert_eq!(rt; price_of_list(&book, &[127; 128]), Ok(1280));
+    assert_eq!(rt; price_of_list(&touch, &[127; 128]), Ok(256));
+    assert_eq!(rt; price_of_list(&book, &[128; 129]), Err(TooLong));
     Ok(())
 }
 
@@ -76,7 +76,8 @@ fn prices(rt: HostRuntime) -> Result<(), Fail> {
 fn counts_facts(rt: HostRuntime) {
     let mut task = Task::new();
     for _ in 0..64 {
-        assert!(rt; task.add_fact());
+        assert!(rt; task.add_fact().is_ok());
     }
-    assert!(rt; !task.add_fact() && task.facts == 64);
+    assert_eq!(rt; task.add_fact(), Err(Full));
+    assert_eq!(rt; task.facts, 64);
 }

@@ -1,15 +1,9 @@
-use Rattle.std.proofs.Common.{Ok, Err}
-use Rattle.book.specs.Loading.{Loads}
+use Rattle.std.proofs.Common.{Ok, rules}
 use Rattle.book.proofs.RoundTrip.{round_trip}
 use Rattle.book.proofs.load.load.Goals as goal
 
-pub returns-in-Ok : goal.returns-in-Ok
-returns-in-Ok c =
-    let s : Loads c.args.book.now (Ok tt) c.store.new.task c.store.new.plan = rw (c.store.ensures.task, c.store.ensures.plan) c.in-Ok.ensures in
-    record { says = s; round_trip = round_trip _ _ _ c.store.new.plan s }
+pub returns-in_err-gather-clause-round_trip : goal.returns-in_err-gather-clause-round_trip
+returns-in_err-gather-clause-round_trip c = round_trip c.args.book.now c.from_residual.result c.store.new.task c.store.new.plan (search rules)
 
-pub returns-in-Err : goal.returns-in-Err
-returns-in-Err c =
-    let s : Loads c.args.book.now (Err c.in-Err.fault) c.store-in-Err.new.task c.store-in-Err.new.plan =
-    (c.in-Err.ensures, rw (c.store-in-Err.ensures.task, c.store-in-Err.ensures.plan) c.new.ensures.week) in
-    record { says = s; round_trip = round_trip _ _ _ c.store-in-Err.new.plan s }
+pub returns-clause-round_trip : goal.returns-clause-round_trip
+returns-clause-round_trip c = round_trip c.args.book.now (Ok tt) c.store-2.new.task c.store-2.new.plan (search rules)
