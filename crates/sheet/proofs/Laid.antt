@@ -8,7 +8,6 @@ use Rattle.sets.proofs.Held.{contents_fit}
 use Rattle.sets.specs.Contents.{contents}
 use Rattle.sets.specs.declared.bits.BitSet.{BitSet}
 use Rattle.sets.specs.declared.list.ArrayVec.{ArrayVec}
-use Rattle.sheet.proofs.RowLaws.{table_all}
 use Rattle.sheet.specs.Rows.{in_row, outlined}
 use Rattle.sheet.specs.Verdicts.{AllKnown, in_a_row}
 use Rattle.task.specs.declared.tasks.Task.{Task}
@@ -22,10 +21,6 @@ row_rules n = record {
   before = λ a b i x y h. absurd (false≢true h);
   behind = λ a b i x y h. absurd (false≢true h);
 }
-
--- the rows of the ties, once all are there
-pub laid_ties : (rows : List (BitSet 2)) (n i : ℕ) → n ≤ i → ((k j : ℕ) → in_row rows k j ≡ (ltb k i && (ltb k j && ltb j n))) → (k j : ℕ) → in_row rows k j ≡ (ltb k j && ltb j n)
-laid_ties rows n i l each = table_all (λ k j. ltb k j && ltb j n) rows i each (λ k j m. grind (arith, nat_tests))
 
 module _ (steps : ArrayVec ℕ 128) (behind blocks : List (BitSet 2)) (ties : (i j : ℕ) → in_row behind i j ≡ (ltb i j && ltb j (length (contents steps)))) (none : (a b : ℕ) → in_row blocks a b ≡ false) where
   pub laid_outline : outlined steps behind blocks ≡ in_a_row (length (contents steps))

@@ -1,5 +1,5 @@
 -- The laws of sets in rows.
-use Rattle.std.proofs.Common.{◌≡◌, ℕ, zero, suc, ◌+◌, ◌*◌, ◌<◌, ◌≤◌, Bool, true, false, ◌&&◌, ltb, List, [], ◌∷◌, length, get_or, set, replicate, sym, refl, ap, ◌∙◌, subst, ⊎_elim, arith}
+use Rattle.std.proofs.Common.{◌≡◌, ℕ, zero, suc, ◌+◌, ◌*◌, ◌<◌, ◌≤◌, Bool, true, false, ◌&&◌, cond, eqb, ltb, List, [], ◌∷◌, length, get_or, set, replicate, sym, refl, ap, ◌∙◌, subst, ⊎_elim, arith}
 use Rattle.std.proofs.lemmas.Bool.{cases_eq, cases_lt, false≢true}
 use Rattle.std.proofs.lemmas.Bool.Decides.{nat_tests}
 use Rattle.sets.proofs.Members.{member_lt}
@@ -52,9 +52,23 @@ module _ {W : ℕ} where
       (λ n. row-set_other rows i k r n j ∙ before k j ∙ grind (arith, nat_tests))
       (cases_eq k i)
 
-  -- and all rows, where nothing is wanted past them
-  pub table_all : (F : ℕ → ℕ → Bool) (rows : List (BitSet W)) (n : ℕ) → ((k j : ℕ) → in_row rows k j ≡ (ltb k n && F k j)) → ((k j : ℕ) → n ≤ k → F k j ≡ false) → (k j : ℕ) → in_row rows k j ≡ F k j
-  table_all F rows n each past k j = ⊎_elim
-      (λ l. each k j ∙ grind (arith, nat_tests))
-      (λ l. each k j ∙ let e = past k j l in grind (arith, nat_tests))
-      (cases_lt k n)
+  -- one more row that is made
+  pub row_made : (Gives : ℕ → BitSet W → Type 0) (rows : List (BitSet W)) (i : ℕ) (r : BitSet W) → i < length rows → ((k : ℕ) → k < i → (s : BitSet W) × Gives k s × ((j : ℕ) → in_row rows k j ≡ member s.words j)) → Gives i r → (k : ℕ) → k < i + 1 → (s : BitSet W) × Gives k s × ((j : ℕ) → in_row (set rows i r) k j ≡ member s.words j)
+  row_made Gives rows i r l before here k m = ⊎_elim
+      (λ e. rw e (r, here, row-set_same rows i r l))
+      (λ n. let b = before k (omega arith) in (b.0, b.1, λ j. row-set_other rows i k r n j ∙ b.2 j))
+      (cases_eq k i)
+
+  -- rows that are made as a test says, where it wants nothing past them
+  pub made_is : (Gives : ℕ → BitSet W → Type 0) (test : ℕ → ℕ → Bool) (rows : List (BitSet W)) (n : ℕ) → ((i : ℕ) → i < n → (s : BitSet W) × Gives i s × ((j : ℕ) → in_row rows i j ≡ member s.words j)) → ((i j : ℕ) → n ≤ i → in_row rows i j ≡ false) → ((i : ℕ) (s : BitSet W) → i < n → Gives i s → (j : ℕ) → member s.words j ≡ test i j) → ((i j : ℕ) → n ≤ i → test i j ≡ false) → (i j : ℕ) → in_row rows i j ≡ test i j
+  made_is Gives test rows n made past says none i j = ⊎_elim
+      (λ l. let m = made i l in m.2 j ∙ says i m.0 l m.1 j)
+      (λ l. past i j l ∙ sym (none i j l))
+      (cases_lt i n)
+
+  -- a row is written, and the others stay
+  pub row_set : (rows : List (BitSet W)) (i : ℕ) (r : BitSet W) → i < length rows → (k j : ℕ) → in_row (set rows i r) k j ≡ cond (eqb k i) (member r.words j) (in_row rows k j)
+  row_set rows i r l k j = ⊎_elim
+      (λ e. let same = row-set_same rows i r l j in rw e (let t : eqb i i ≡ true = grind (arith, nat_tests) in rw t same))
+      (λ n. let t : eqb k i ≡ false = grind (arith, nat_tests) in rw t (row-set_other rows i k r n j))
+      (cases_eq k i)

@@ -11,4 +11,4 @@ actions sheet = contents sheet.steps
 
 -- its positions, ties and blocks
 abbrev pub outline : Sheet → Outline
-outline sheet = outlined sheet.steps sheet.behind sheet.blocks
+outline sheet = outlined sheet.steps sheet.behind.rows sheet.blocks.rows

@@ -1,8 +1,10 @@
 // The check: whether in every running order each step finds the facts that it needs, and the goal is reached.
-ghost use Rattle.std.specs.Prelude.{◌≡◌, ℕ, ◌<◌, ◌&&◌, MatchOption};
+ghost use Rattle.std.specs.Prelude.{◌≡◌, ℕ, ◌<◌, ◌≤◌, ◌&&◌, false, List, MatchOption};
+ghost use Rattle.std.specs.Iterator.{AlwaysYields, IsFinite};
 ghost use Rattle.orders.specs.Check.{leads, missing, some_below, taken_by, takes as takes_down};
 ghost use Rattle.orders.specs.Facts.{Good, needed as needed_there};
 ghost use Rattle.sets.specs.Member.{member};
+ghost use Rattle.sets.specs.declared.bits.BitSet.{BitSet as Set};
 ghost use Rattle.sheet.specs.Masks.{IsTable};
 ghost use Rattle.sheet.specs.Rows.{in_row};
 ghost use Rattle.sheet.specs.Sheets.{actions, outline};
@@ -14,24 +16,52 @@ use crate::sheet::Sheet;
 use sets::bits::BitSet;
 use task::{Action, Facts, Task};
 
-// The action of the step at `p`, one that does nothing where there is none.
+// The action of the step at `p`, one that does nothing where there is none. Here the task and the sheet are two parameters,
+// as `check` takes them: a struct of the two would say no more. `Setting` holds them where tables are kept.
 fn step(task: &Task, sheet: &Sheet, p: usize) -> Action
     ensures needs { (f : ℕ) → member result.needs.words f ≡ (effects task.now sheet.now).needs p f }
     ensures adds { (f : ℕ) → member result.adds.words f ≡ (effects task.now sheet.now).adds p f }
     ensures deletes { (f : ℕ) → member result.deletes.words f ≡ (effects task.now sheet.now).deletes p f }
 {
-    if let Some(number) = sheet.action(p)
-        && let Some(action) = task.action(number)
-    {
-        return action;
-    }
     let none = Facts::empty();
-    Action {
+    let idle = Action {
         needs: none,
         adds: none,
         deletes: none,
         price: 0,
+    };
+    sheet
+        .action(p)
+        .and_then(|number| task.action(number))
+        .unwrap_or(idle)
+}
+
+// The facts that `entry` answers for each position. It fills rows by index as `Relation::by_rows` does, for sets of another
+// width: a bound on a closure cannot name the width.
+fn table<F: Fn(usize) -> Facts>(entry: F) -> [Facts; 128]
+    requires { (p : ℕ) → p < 128 → F.pre entry p }
+    ensures rows { (p : ℕ) → p < 128 → (set : Set 1) × F.post entry p set × ((f : ℕ) → in_row result p f ≡ member set.words f) }
+    ensures past { (p f : ℕ) → 128 ≤ p → in_row result p f ≡ false }
+{
+    let mut rows = [Facts::empty(); 128];
+    for p in 0..128 {
+        rows[p] = entry(p);
     }
+    rows
+}
+
+fn added(task: &Task, sheet: &Sheet, p: usize) -> Facts
+    ensures { (f : ℕ) → member result.words f ≡ (effects task.now sheet.now).adds p f }
+{
+    step(task, sheet, p).adds
+}
+
+// What the step at `p` takes down: deletes, and does not add.
+fn taken_down(task: &Task, sheet: &Sheet, p: usize) -> Facts
+    ensures { (f : ℕ) → member result.words f ≡ takes_down (effects task.now sheet.now) p f }
+{
+    let action = step(task, sheet, p);
+    action.deletes.minus(&action.adds)
 }
 
 // The facts that are needed at place `p`.
@@ -57,7 +87,8 @@ fn supplied(adds: &[Facts], positions: &BitSet<2>, n: usize) -> Facts
     supplied
 }
 
-// A sheet under a task, with what each step adds, and what it takes down: deletes and does not add.
+// A sheet under a task, with what each step adds, and what it takes down. Two tables and not one of pairs, since `row` and
+// its law then serve both.
 #[derive(Drop)]
 struct Setting<'t, 's> {
     task: &'t Task,
@@ -72,18 +103,11 @@ impl<'t, 's> Setting<'t, 's> {
     fn new(task: &'t Task, sheet: &'s Sheet) -> Self
         ensures { (result.task.now ≡ task.now) × (result.sheet.now ≡ sheet.now) }
     {
-        let mut adds = [Facts::empty(); 128];
-        let mut takes = [Facts::empty(); 128];
-        for p in 0..128 {
-            let action = step(task, sheet, p);
-            adds[p] = action.adds;
-            takes[p] = action.deletes.minus(&action.adds);
-        }
         Setting {
             task,
             sheet,
-            adds,
-            takes,
+            adds: table(|p| added(task, sheet, p)),
+            takes: table(|p| taken_down(task, sheet, p)),
         }
     }
 
@@ -128,6 +152,7 @@ fn first_wanting(task: &Task, sheet: &Sheet) -> Option<(usize, usize)>
         (λ found. LowestWanting (outline sheet.now) (effects task.now sheet.now) found.0 found.1) }
 {
     let setting = Setting::new(task, sheet);
+    // The label leaves both loops at once.
     'found: {
         for place in 0..sheet.steps() + 1 {
             let wanting = setting.wanting_at(place);
@@ -141,25 +166,30 @@ fn first_wanting(task: &Task, sheet: &Sheet) -> Option<(usize, usize)>
     }
 }
 
-// The first of the actions that the task lacks.
-fn first_unknown(task: &Task, sheet: &Sheet) -> Option<u32>
+// The first of the numbers that is none of the task's actions.
+pub fn first_unknown<I: Iterator<Item = u32>>(task: &Task, mut numbers: I) -> Option<u32>
+    requires can { I.can_next numbers }
+    requires finite { IsFinite (I.remaining numbers) }
+    ensures { (all : List ℕ) → AlwaysYields I.next_gives (λ n. n) numbers all →
+        MatchOption result (AllKnown task.now all) (FirstUnknown task.now all) }
+{
+    numbers.find(|number| *number as usize >= task.actions.len())
+}
+
+// The first of the sheet's actions that the task lacks.
+fn unknown_step(task: &Task, sheet: &Sheet) -> Option<u32>
     ensures { MatchOption result
         (AllKnown task.now (actions sheet.now))
         (FirstUnknown task.now (actions sheet.now)) }
 {
-    for number in sheet.actions() {
-        if *number as usize >= task.actions.len() {
-            return Some(u32::from(*number));
-        }
-    }
-    None
+    first_unknown(task, sheet.actions().iter().copied().map(u32::from))
 }
 
 // Refuses a sheet with an action that the task lacks, and then one that is wanting a fact.
 pub fn check(task: &Task, sheet: &Sheet) -> Result<(), SheetFault>
     ensures { Checks task.now sheet.now result }
 {
-    if let Some(action) = first_unknown(task, sheet) {
+    if let Some(action) = unknown_step(task, sheet) {
         return Err(SheetFault::UnknownAction(action));
     }
     match first_wanting(task, sheet) {

@@ -4,11 +4,13 @@
 
 mod checking;
 mod fault;
+mod relation;
 mod rows;
 mod sheet;
 
-pub use checking::check;
+pub use checking::{check, first_unknown};
 pub use fault::SheetFault;
+pub use relation::Relation;
 pub use rows::row;
 pub use sheet::{Sheet, lay};
 

@@ -1,10 +1,10 @@
 // A sheet: steps in their home order, ties and blocks.
-ghost use Rattle.std.specs.Prelude.{◌≡◌, ℕ, ◌<◌, length, slice_index};
+ghost use Rattle.std.specs.Prelude.{◌≡◌, ℕ, ◌<◌, slice_index};
 ghost use Rattle.orders.specs.Sheets.{Rules};
 ghost use Rattle.sets.specs.Contents.{contents};
 ghost use Rattle.sheet.specs.Rows.{outlined};
 
-use sets::bits::BitSet;
+use crate::relation::Relation;
 use sets::list::ArrayVec;
 
 mod laying;
@@ -13,15 +13,13 @@ mod questions;
 
 pub use laying::lay;
 
-// A step has an action number below 128. Row i of `behind` has the positions that i is tied before,
-// and row a of `blocks` the last positions of the blocks that begin at a.
-#[derive(Clone, Copy)]
+// A step has an action number below 128. `behind` pairs i with the positions that it is tied before, and `blocks` the first
+// position of each block with its last.
+#[derive(Clone, Copy, PartialEq, Eq)]
 pub struct Sheet {
     pub steps: ArrayVec<u8, 128>,
-    pub behind: [BitSet<2>; 128],
-    pub blocks: [BitSet<2>; 128],
+    pub behind: Relation,
+    pub blocks: Relation,
     ghost numbers: { (i : ℕ) → slice_index (contents steps) i < 128 },
-    ghost ties: { length behind ≡ 128 },
-    ghost groups: { length blocks ≡ 128 },
-    ghost rules: { ∥ Rules (outlined steps behind blocks) ∥₁ },
+    ghost rules: { ∥ Rules (outlined steps behind.rows blocks.rows) ∥₁ },
 }

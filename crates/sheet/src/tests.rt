@@ -13,7 +13,7 @@ fn small_task(goal: usize) -> Task {
     let mut task = Task::new();
     for (adds, price) in [(fact(0), 5), (Facts::empty(), 7)] {
         if let Some(action) = Action::new(fact(0), adds, fact(0), price) {
-            task.add_action(action);
+            let _ = task.add_action(action);
         }
     }
     task.start = fact(0);

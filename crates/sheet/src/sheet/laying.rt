@@ -1,6 +1,7 @@
 // Laying a plan as a sheet.
-ghost use Rattle.std.specs.Prelude.{◌≡◌, ℕ, ◌<◌, ◌≤◌, length, MatchResult, slice_index};
+ghost use Rattle.std.specs.Prelude.{◌≡◌, ℕ, ◌<◌, ◌≤◌, ◌&&◌, length, MatchResult, nat_lt, slice_index};
 ghost use Rattle.sets.specs.Contents.{contents};
+ghost use Rattle.sheet.specs.Rows.{in_row};
 ghost use Rattle.sheet.specs.Sheets.{outline};
 ghost use Rattle.sheet.specs.Verdicts.{AllKnown, FirstUnknown, Lays, in_a_row};
 ghost use Rattle.sheet.specs.declared.fault.SheetFault.TheVariants.{UnknownAction};
@@ -8,6 +9,7 @@ ghost use Rattle.sheet.specs.declared.fault.SheetFault.TheVariants.{UnknownActio
 use super::Sheet;
 use crate::checking::check;
 use crate::fault::SheetFault;
+use crate::relation::Relation;
 use sets::bits::BitSet;
 use sets::list::ArrayVec;
 use task::Task;
@@ -42,20 +44,23 @@ fn known_steps(task: &Task, plan: &[u32]) -> Result<ArrayVec<u8, 128>, SheetFaul
     Ok(steps)
 }
 
+// Each of `n` positions tied before all later ones.
+fn all_ties(n: usize) -> Relation
+    requires { n ≤ 128 }
+    ensures { (i j : ℕ) → in_row result.rows i j ≡ (nat_lt i j && nat_lt j n) }
+{
+    let positions = BitSet::below(n);
+    Relation::by_rows(|i| positions.minus(&BitSet::below(i + 1)))
+}
+
 // Each step tied before all later ones.
 fn row_of(steps: ArrayVec<u8, 128>) -> Sheet
     requires { (i : ℕ) → slice_index (contents steps) i < 128 }
     ensures { (result.steps ≡ steps) × (outline result ≡ in_a_row (length (contents steps))) }
 {
-    let n = steps.len();
-    let positions = BitSet::below(n);
-    let mut behind = [BitSet::empty(); 128];
-    for i in 0..n {
-        behind[i] = positions.minus(&BitSet::below(i + 1));
-    }
     Sheet {
         steps,
-        behind,
-        blocks: [BitSet::empty(); 128],
+        behind: all_ties(steps.len()),
+        blocks: Relation::empty(),
     }
 }

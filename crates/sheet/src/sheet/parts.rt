@@ -6,7 +6,7 @@ ghost use Rattle.sheet.specs.Masks.{AreForced, IsPart};
 ghost use Rattle.sheet.specs.Sheets.{outline};
 
 use super::Sheet;
-use crate::rows::{highest, row};
+use crate::rows::highest;
 use sets::bits::BitSet;
 
 impl Sheet {
@@ -34,7 +34,7 @@ impl Sheet {
         let (low, high) = limits(i, j);
         let reaching = BitSet::below(high).minus(&BitSet::below(i));
         for a in low..i + 1 {
-            if let Some(b) = highest(&row(&self.blocks, a).intersection(&reaching)) {
+            if let Some(b) = highest(&self.blocks.row(a).intersection(&reaching)) {
                 return (a, b);
             }
         }
@@ -60,20 +60,14 @@ impl Sheet {
         if p == n {
             return BitSet::below(n);
         }
-        let mut ahead = BitSet::empty();
-        for x in 0..n {
-            if self.is_tied(x, p) {
-                ahead.insert(x);
-            }
-        }
-        ahead
+        BitSet::below_where(n, |x| self.is_tied(x, p))
     }
 
     // The positions that must come between `d` and `p` where `d` comes ahead of `p`; `ahead` has those tied before `p`.
     pub(crate) fn forced(&self, d: usize, p: usize, ahead: &BitSet<2>) -> BitSet<2>
         ensures { AreForced (outline self.now) d p (member ahead.now.words) (member result.words) }
     {
-        let behind = row(&self.behind, d).union(&self.part_mask(p, d));
+        let behind = self.behind.row(d).union(&self.part_mask(p, d));
         behind.intersection(&self.part_mask(d, p).union(ahead))
     }
 }

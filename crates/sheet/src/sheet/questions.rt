@@ -4,7 +4,6 @@ ghost use Rattle.std.specs.List.{slice_get};
 ghost use Rattle.sheet.specs.Sheets.{actions, outline};
 
 use super::Sheet;
-use crate::rows::row;
 use task::Tariff;
 
 impl Sheet {
@@ -26,24 +25,21 @@ impl Sheet {
     pub fn action(&self, i: usize) -> Option<u32>
         ensures { result ≡ slice_get (actions self.now) i }
     {
-        match self.steps.get(i) {
-            Some(number) => Some(u32::from(number)),
-            None => None,
-        }
+        self.steps.get(i).map(|number| u32::from(number))
     }
 
     // Whether `i` is tied before `j`.
     pub fn is_tied(&self, i: usize, j: usize) -> bool
         ensures { result ≡ (outline self.now).tied i j }
     {
-        row(&self.behind, i).has(j)
+        self.behind.has(i, j)
     }
 
     // Whether the positions `a` to `b` are a block.
     pub fn is_block(&self, a: usize, b: usize) -> bool
         ensures { result ≡ (outline self.now).block a b }
     {
-        row(&self.blocks, a).has(b)
+        self.blocks.has(a, b)
     }
 
     // The sum of the prices of its steps.

@@ -9,13 +9,13 @@ use Rattle.sheet.proofs.sheet.Sheet.span.Goals as goal
 use Rattle.sheet.specs.Sheets.{outline}
 
 pub loop-a-init : goal.loop-a-init
-loop-a-init c = none_first (outline c.args.self.now) (row_lt c.args.self.now.blocks) c.args.i c.args.j _ _ c.limits-low.ensures
+loop-a-init c = none_first (outline c.args.self.now) (row_lt c.args.self.now.blocks.rows) c.args.i c.args.j _ _ c.limits-low.ensures
 
 pub returns-in-Some : goal.returns-in-Some
 returns-in-Some c =
     let found = c.in-Some.ensures in
     record {
-      part = part_found (outline c.args.self.now) (row_lt c.args.self.now.blocks) c.args.i c.args.j _ _ c.limits-low.ensures
+      part = part_found (outline c.args.self.now) (row_lt c.args.self.now.blocks.rows) c.args.i c.args.j _ _ c.limits-low.ensures
           c.loop-a.a c.loop-a.auto.a (omega arith) (member c.intersection.result.words)
           (λ b. cc (c.intersection.ensures b, c.row.ensures b, c.minus-reaching.ensures b, c.below.ensures b, c.below-2.ensures b))
           (sheet_rules c.args.self.now) c.loop-a.invariant c.in-Some.b found.0 found.1;
@@ -24,7 +24,7 @@ returns-in-Some c =
 
 pub loop-a-preserved : goal.loop-a-preserved
 loop-a-preserved c =
-    none_more (outline c.args.self.now) (row_lt c.args.self.now.blocks) c.args.i c.args.j _ _ c.limits-low.ensures
+    none_more (outline c.args.self.now) (row_lt c.args.self.now.blocks.rows) c.args.i c.args.j _ _ c.limits-low.ensures
     c.loop-a.a c.loop-a.auto.a (omega arith) (member c.intersection.result.words)
     (λ b. cc (c.intersection.ensures b, c.row.ensures b, c.minus-reaching.ensures b, c.below.ensures b, c.below-2.ensures b))
     c.loop-a.invariant c.in_default.ensures
