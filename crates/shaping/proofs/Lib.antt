@@ -2,4 +2,4 @@ pub mod CheckLaws
 pub mod GroupLaws
 pub mod LoosenLaws
 pub mod Outlines
-pub mod RowEdits
+pub mod RangeLaws

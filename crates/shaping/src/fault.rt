@@ -52,6 +52,7 @@ impl EditFault {
     }
 }
 
+// By hand: the contracts name the fault that a `?` makes.
 impl From<SheetFault> for EditFault {
     ghost from_gives = { λ why r. r ≡ OfSheet why };
 

@@ -6,6 +6,7 @@ mod checked;
 mod fault;
 mod grouping;
 mod loosening;
+mod run;
 mod ungrouping;
 
 pub use checked::adopt;

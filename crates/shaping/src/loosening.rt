@@ -1,5 +1,6 @@
 // Loosen: the ties from one part to another are dropped.
-ghost use Rattle.std.specs.Prelude.{◌≡◌, ℕ, ◌<◌, length, MatchBool};
+// `i` and `j` stay two numbers: each function hands them to questions of the sheet, which take two.
+ghost use Rattle.std.specs.Prelude.{◌≡◌, ℕ, ◌<◌, MatchBool};
 ghost use Rattle.shaping.specs.Answers.{Loosens, TiedBetween};
 ghost use Rattle.orders.specs.Edits.{CanLoosen, loosened};
 ghost use Rattle.sheet.specs.Rows.{in_row};
@@ -7,8 +8,7 @@ ghost use Rattle.sheet.specs.Sheets.{actions, outline};
 
 use crate::checked::adopt;
 use crate::fault::EditFault;
-use sets::bits::BitSet;
-use sheet::{Sheet, row};
+use sheet::{Relation, Sheet};
 use task::Task;
 
 // Whether a position outside the parts of `i` and `j` is tied behind `i` and before `j`.
@@ -17,24 +17,24 @@ fn is_tied_between(sheet: &Sheet, i: usize, j: usize) -> bool
     ensures { MatchBool result (TiedBetween (outline sheet.now) i j) (CanLoosen (outline sheet.now) i j) }
 {
     let parts = sheet.part_mask(i, j).union(&sheet.part_mask(j, i));
-    let between = row(&sheet.behind, i).intersection(&sheet.ahead(j));
+    let between = sheet.behind.row(i).intersection(&sheet.ahead(j));
     !parts.contains_all(&between)
 }
 
 // The ties without those from the part of `i` to the part of `j`.
-fn loosened_ties(sheet: &Sheet, i: usize, j: usize) -> [BitSet<2>; 128]
-    ensures rows { length result ≡ 128 }
-    ensures ties { (x y : ℕ) → in_row result x y ≡ (loosened (outline sheet.now) i j).tied x y }
+fn loosened_ties(sheet: &Sheet, i: usize, j: usize) -> Relation
+    ensures { (x y : ℕ) → in_row result.rows x y ≡ (loosened (outline sheet.now) i j).tied x y }
 {
     let first = sheet.part_mask(i, j);
     let second = sheet.part_mask(j, i);
-    let mut rows = sheet.behind;
-    for x in 0..128 {
+    Relation::by_rows(|x| {
+        let row = sheet.behind.row(x);
         if first.has(x) {
-            rows[x] = row(&sheet.behind, x).minus(&second);
+            row.minus(&second)
+        } else {
+            row
         }
-    }
-    rows
+    })
 }
 
 // The sheet without the ties from the part of `i` to the part of `j`.

@@ -1,39 +1,26 @@
 // Ungroup: a block ends, and all ties stay.
-ghost use Rattle.std.specs.Prelude.{◌≡◌, ℕ, ◌<◌, length};
+ghost use Rattle.std.specs.Prelude.{◌≡◌};
 ghost use Rattle.shaping.specs.Answers.{Ungroups};
 ghost use Rattle.orders.specs.Edits.{ungrouped};
-ghost use Rattle.sheet.specs.Rows.{in_row};
 ghost use Rattle.sheet.specs.Sheets.{actions, outline};
 
 use crate::checked::adopt;
 use crate::fault::EditFault;
-use sets::bits::BitSet;
-use sheet::{Sheet, row};
+use crate::run::Run;
+use sheet::Sheet;
 use task::Task;
 
-// The blocks without `a` to `b`.
-fn blocks_without(sheet: &Sheet, a: usize, b: usize) -> [BitSet<2>; 128]
-    requires { a < 128 }
-    ensures rows { length result ≡ 128 }
-    ensures blocks { (c d : ℕ) → in_row result c d ≡ (ungrouped (outline sheet.now) a b).block c d }
-{
-    let mut ends = row(&sheet.blocks, a);
-    ends.remove(b);
-    let mut blocks = sheet.blocks;
-    blocks[a] = ends;
-    blocks
-}
-
-// The sheet without the block `a` to `b`.
-fn ungrouped_sheet(sheet: &Sheet, a: usize, b: usize) -> Sheet
-    requires { a < 128 }
+// The sheet without the run as a block.
+fn ungrouped_sheet(sheet: &Sheet, run: Run) -> Sheet
     ensures steps { actions result ≡ actions sheet.now }
-    ensures order { outline result ≡ ungrouped (outline sheet.now) a b }
+    ensures order { outline result ≡ ungrouped (outline sheet.now) run.first run.last }
 {
+    let mut ends = sheet.blocks.row(run.first);
+    ends.remove(run.last);
     Sheet {
         steps: sheet.steps,
         behind: sheet.behind,
-        blocks: blocks_without(sheet, a, b),
+        blocks: sheet.blocks.with_row(run.first, &ends),
     }
 }
 
@@ -42,12 +29,10 @@ fn ungrouped_sheet(sheet: &Sheet, a: usize, b: usize) -> Sheet
 pub fn ungroup(sheet: &mut Sheet, task: &Task, a: usize, b: usize) -> Result<(), EditFault>
     ensures { Ungroups task.now sheet.old a b result sheet.new }
 {
-    if a >= b || b >= sheet.steps() {
-        return Err(EditFault::Position);
-    }
+    let run = Run::of(sheet, a, b).ok_or(EditFault::Position)?;
     if !sheet.is_block(a, b) {
         return Err(EditFault::Block);
     }
-    let asked = ungrouped_sheet(sheet, a, b);
+    let asked = ungrouped_sheet(sheet, run);
     adopt(sheet, task, asked)
 }

@@ -1,24 +1,20 @@
-use mathlib.Core.Bool.{or-false}
-use Rattle.std.proofs.Common.{sym, ◌∙◌}
-use Rattle.shaping.proofs.GroupLaws.{joins_ahead, joins_inside, joins_none}
+use Rattle.std.proofs.Common.{true, false, arith}
+use Rattle.shaping.proofs.GroupLaws.{some_inside}
 use Rattle.shaping.proofs.grouping.joined.Goals as goal
-use Rattle.sheet.specs.Sheets.{outline}
 
 pub returns-then-has : goal.returns-then-has
 returns-then-has c y =
-    let within = sym (c.run-block.ensures c.args.x) ∙ sym c.if-has.ensures in
-    cc (joins_inside (outline c.args.sheet.now) c.args.a c.args.b c.args.x within y, c.union.ensures y, c.row-row.ensures y, c.requires.1.1 y)
+    let in_block = c.if-has.ensures in
+    grind (arith, c.positions-block.ensures, c.row-row.ensures, c.union.ensures, c.requires)
 
 pub returns-then-meets : goal.returns-then-meets
 returns-then-meets c y =
-    let outside = sym (c.run-block.ensures c.args.x) ∙ sym c.if-has.ensures in
-    let (z, both) = c.if-meets.ensures in
-    let joins = joins_ahead (outline c.args.sheet.now) c.args.a c.args.b c.args.x outside z (cc (both, c.row-row.ensures z, c.run-block.ensures z)) y in
-    cc (joins, c.union-then-meets-2.ensures y, c.union-then-meets.ensures y, c.row-row.ensures y, c.run-block.ensures y, c.requires.1.1 y)
+    let some = some_inside _ c.args.run.first c.args.run.last _ _ c.row-row.ensures c.positions-block.ensures true c.if-meets.ensures in
+    let out = c.if-has.ensures in
+    grind (arith, c.positions-block.ensures, c.row-row.ensures, c.union-then-meets-2.ensures, c.union-then-meets.ensures, c.requires)
 
 pub returns-else-meets : goal.returns-else-meets
 returns-else-meets c y =
-    let s = outline c.args.sheet.now in
-    let outside = sym (c.run-block.ensures c.args.x) ∙ sym c.if-has.ensures in
-    let none = joins_none s c.args.a c.args.b c.args.x outside (λ z. cc (c.if-meets.ensures z, c.row-row.ensures z, c.run-block.ensures z)) y in
-    cc (none, or-false (s.tied c.args.x y), c.row-row.ensures y)
+    let none = some_inside _ c.args.run.first c.args.run.last _ _ c.row-row.ensures c.positions-block.ensures false c.if-meets.ensures in
+    let out = c.if-has.ensures in
+    grind (arith, c.positions-block.ensures, c.row-row.ensures, c.requires)

@@ -1,24 +1,21 @@
-use Rattle.std.proofs.Common.{◌≡◌, suc, sym, ◌∙◌, add-one, arith}
-use Rattle.std.proofs.lemmas.Bool.{cases_Bool, le-leb}
-use Rattle.shaping.proofs.GroupLaws.{none_ahead}
+use Rattle.std.proofs.Common.{◌≡◌, ◌+◌, ◌≤◌, ◌&&◌, leb, add-one, sym, ◌∙◌, rules, arith}
+use Rattle.shaping.proofs.GroupLaws.{none_ahead, tied_behind_more}
+use Rattle.shaping.proofs.RangeLaws.{fold_from_Range}
 use Rattle.shaping.proofs.grouping.tied_behind_run.Goals as goal
+use Rattle.orders.specs.Check.{some_below}
+use Rattle.sets.specs.Member.{member}
 use Rattle.sheet.specs.Sheets.{outline}
-
-pub loop-y-init : goal.loop-y-init
-loop-y-init c x = c.empty-behind.ensures x ∙ sym (none_ahead c.args.a c.args.a (λ y. (outline c.args.sheet.now).tied y x) (omega arith))
-
-pub loop-y-preserved : goal.loop-y-preserved
-loop-y-preserved c x =
-    let put = c.union-behind.ensures x in
-    let old = c.loop-y.invariant x in
-    let row = c.row.ensures x in
-    let here = le-leb c.args.a c.loop-y.y c.loop-y.auto.y in
-    rw add-one (grind (arith, cases_Bool ((outline c.args.sheet.now).tied c.loop-y.y x)))
 
 pub returns : goal.returns
 returns c x =
-    let end : c.loop-y.y ≡ suc c.args.b = omega (arith, c.loop-y-test.false) in
+    let s = outline c.args.sheet.now in
+    let a = c.args.run.first in
+    let all : member c.fold.result.words x ≡ some_below (c.args.run.last + 1) (λ y. leb a y && s.tied y x) =
+    (fold_from_Range (λ i set. (a ≤ i) × (member set.words x ≡ some_below i (λ y. leb a y && s.tied y x))) _
+    (λ i old new q (l, e) k. (search rules, (omega arith, tied_behind_more s a x i _ _ l e (search rules))))
+    _ _ _ c.fold.ensures.ran (omega arith)
+    (omega arith, c.empty.ensures x ∙ sym (none_ahead a a (λ y. s.tied y x) (omega arith)))).1 in
+    let to_last = rw add-one at all in
     let cut = c.minus.ensures x in
-    let old = rw end at (c.loop-y.invariant x) in
-    let run = c.run.ensures x in
+    let run = c.positions.ensures x in
     grind (arith)

@@ -8,7 +8,4 @@ use Rattle.sheet.specs.Sheets.{outline}
 pub invariant_of-result : goal.invariant_of-result
 invariant_of-result c =
     let rules = loosen_keeps_rules (outline c.args.sheet.now) (sheet_rules c.args.sheet.now) c.args.i c.args.j c.requires in
-    record { numbers = c.args.sheet.now.numbers; ties = c.loosened_ties.ensures.rows; groups = c.args.sheet.now.groups; rules = rules_kept _ _ (outlines_same _ _ refl c.loosened_ties.ensures.ties (λ a b. refl)) rules }
-
-pub returns : goal.returns
-returns c = record { steps = refl; order = outlines_same _ _ refl c.loosened_ties.ensures.ties (λ a b. refl) }
+    record { numbers = c.args.sheet.now.numbers; rules = rules_kept _ _ (outlines_same _ _ refl c.loosened_ties.ensures (λ a b. refl)) rules }

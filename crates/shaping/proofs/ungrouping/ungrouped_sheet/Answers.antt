@@ -1,4 +1,5 @@
-use Rattle.std.proofs.Common.{refl}
+use Rattle.std.proofs.Common.{refl, arith}
+use Rattle.std.proofs.lemmas.Bool.Decides.{nat_tests}
 use Rattle.shaping.proofs.Outlines.{outlines_same, rules_kept}
 use Rattle.shaping.proofs.ungrouping.ungrouped_sheet.Goals as goal
 use Rattle.orders.proofs.EditLoosen.{ungroup_keeps_rules}
@@ -7,8 +8,5 @@ use Rattle.sheet.specs.Sheets.{outline}
 
 pub invariant_of-result : goal.invariant_of-result
 invariant_of-result c =
-    let rules = ungroup_keeps_rules (outline c.args.sheet.now) (sheet_rules c.args.sheet.now) c.args.a c.args.b in
-    record { numbers = c.args.sheet.now.numbers; ties = c.args.sheet.now.ties; groups = c.blocks_without.ensures.rows; rules = rules_kept _ _ (outlines_same _ _ refl (λ x y. refl) c.blocks_without.ensures.blocks) rules }
-
-pub returns : goal.returns
-returns c = record { steps = refl; order = outlines_same _ _ refl (λ x y. refl) c.blocks_without.ensures.blocks }
+    let rules = ungroup_keeps_rules (outline c.args.sheet.now) (sheet_rules c.args.sheet.now) c.args.run.first c.args.run.last in
+    record { numbers = c.args.sheet.now.numbers; rules = rules_kept _ _ (outlines_same _ _ refl (λ x y. refl) (λ k d. let cut = c.remove.ensures d in let old = c.row-ends.ensures d in let rows = c.with_row.ensures k d in grind (arith, nat_tests))) rules }

@@ -1,0 +1,59 @@
+// A run of positions.
+ghost use Rattle.std.specs.Prelude.{◌≡◌, ℕ, ◌<◌, ◌&&◌, MatchOption, nat_le, nat_lt};
+ghost use Rattle.shaping.specs.Answers.{InOrder, NotInOrder, crosses};
+ghost use Rattle.orders.specs.Check.{inside};
+ghost use Rattle.sets.specs.Member.{member};
+ghost use Rattle.sheet.specs.Sheets.{outline};
+
+use sets::bits::BitSet;
+use sheet::Sheet;
+
+// The positions `first` to `last`, two or more.
+#[derive(Clone, Copy)]
+pub(crate) struct Run {
+    pub(crate) first: usize,
+    pub(crate) last: usize,
+    ghost several: { first < last },
+    ghost room: { last < 128 },
+}
+
+impl Run {
+    // From `a` to `b`; None unless they are positions of the sheet in that order.
+    pub(crate) fn of(sheet: &Sheet, a: usize, b: usize) -> Option<Run>
+        ensures { MatchOption result
+            (NotInOrder (outline sheet.now) a b)
+            (λ run. (run.first ≡ a) × (run.last ≡ b) × InOrder (outline sheet.now) a b) }
+    {
+        if a < b && b < sheet.steps() {
+            Some(Run { first: a, last: b })
+        } else {
+            None
+        }
+    }
+
+    pub(crate) fn positions(self) -> BitSet<2>
+        ensures { (x : ℕ) → member result.words x ≡ inside self.first self.last x }
+    {
+        span(self.first, self.last + 1)
+    }
+
+    // The last positions with which a run from `c` on crosses this one.
+    pub(crate) fn crossing_ends(self, c: usize) -> BitSet<2>
+        ensures { (d : ℕ) → member result.words d ≡ (crosses self.first self.last c d && nat_lt d 128) }
+    {
+        if c < self.first {
+            span(self.first, self.last)
+        } else if self.first < c && c <= self.last {
+            span(self.last + 1, 128)
+        } else {
+            BitSet::empty()
+        }
+    }
+}
+
+// The numbers from `first` on and below `end`, as far as there is room.
+fn span(first: usize, end: usize) -> BitSet<2>
+    ensures { (x : ℕ) → member result.words x ≡ (nat_le first x && nat_lt x end && nat_lt x 128) }
+{
+    BitSet::below(end).minus(&BitSet::below(first))
+}
