@@ -1,6 +1,6 @@
 -- The sheet that replace asks for, by what its fields are.
-use Rattle.std.proofs.Common.{◌≡◌, ℕ, ◌<◌, ◌≤◌, ◌&&◌, ltb, List, length, ap, ◌∙◌}
-use Rattle.edits.proofs.KeptPairs.{kept_outline}
+use Rattle.std.proofs.Common.{◌≡◌, ℕ, ◌<◌, ◌≤◌, List, length, ap, ◌∙◌}
+use Rattle.edits.proofs.KeptPairs.{Rows, kept_outline}
 use Rattle.shaping.proofs.Outlines.{rules_kept}
 use Rattle.edits.proofs.PutIn.{length-put_in}
 use Rattle.edits.specs.Replacing.{HasRoom, put_in}
@@ -11,15 +11,14 @@ use Rattle.sets.specs.Contents.{contents}
 use Rattle.sets.specs.declared.bits.BitSet.{BitSet}
 use Rattle.sets.specs.declared.list.ArrayVec.{ArrayVec}
 use Rattle.sheet.proofs.SheetRules.{sheet_rules}
-use Rattle.sheet.specs.Rows.{in_row, outlined}
+use Rattle.sheet.specs.Rows.{outlined}
 use Rattle.sheet.specs.Sheets.{actions, outline}
 use Rattle.sheet.specs.declared.sheet.Sheet.{Sheet}
 
 abbrev new : Sheet → ℕ → ℕ → List ℕ → Outline
 new sheet a b list = replaced (outline sheet) a b (length list)
 
-module _ (sheet : Sheet) (a b : ℕ) (list : List ℕ) (whole : IsMember (outline sheet) a b) (l : a ≤ b) (some : 0 < length list) (room : HasRoom (outline sheet) a b (length list)) (steps : ArrayVec ℕ 128) (same : contents steps ≡ put_in (actions sheet) a b list) (behind blocks : List (BitSet 2))
-    (ties : (x y : ℕ) → in_row behind x y ≡ (ltb x 128 && (ltb y 128 && (new sheet a b list).tied x y))) (ends : (x y : ℕ) → in_row blocks x y ≡ (ltb x 128 && (ltb y 128 && (new sheet a b list).block x y))) where
+module _ (sheet : Sheet) (a b : ℕ) (list : List ℕ) (whole : IsMember (outline sheet) a b) (l : a ≤ b) (some : 0 < length list) (room : HasRoom (outline sheet) a b (length list)) (steps : ArrayVec ℕ 128) (same : contents steps ≡ put_in (actions sheet) a b list) (behind blocks : List (BitSet 2)) (ties : Rows behind (new sheet a b list).tied) (ends : Rows blocks (new sheet a b list).block) where
   rules : Rules (new sheet a b list)
   rules = replace_keeps_rules (outline sheet) (sheet_rules sheet) a b (length list) whole some
 

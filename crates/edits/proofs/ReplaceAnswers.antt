@@ -1,7 +1,8 @@
 -- What replace answers, by the sheet asked for.
 use Rattle.std.proofs.Common.{◌≡◌, ℕ, ◌+◌, ◌-◌, ◌<◌, ◌≤◌, List, ◌++◌, length, sum_by, sym, refl, ap, ◌∙◌, subst, inl, inr, arith}
 use Rattle.std.proofs.lemmas.List.{get_or-append-add, get_or_append_left, length-append}
-use Rattle.edits.proofs.PutIn.{put_in_each, sum_by-put_in}
+use Rattle.std.proofs.lemmas.List.Elements.{All-from_get_or, All-get_or}
+use Rattle.edits.proofs.PutIn.{put_in_all, sum_by-put_in}
 use Rattle.shaping.specs.Answers.{CheckRefused}
 use Rattle.edits.specs.Replacing.{IsAsked, IsReplaced, NotAsked, ReplaceRefused, from_to, put_in}
 use Rattle.shaping.specs.declared.fault.EditFault.{EditFault}
@@ -20,21 +21,14 @@ module _ (task : Task) (xs ys : List ℕ) (known : AllKnown task (xs ++ ys)) whe
   known_back k l = rw (sym (get_or-append-add xs ys k 0)) (known (length xs + k) (omega (arith, length-append xs ys)))
 
 module _ (task : Task) (before : Sheet) (a b : ℕ) (list : List ℕ) where
-  -- where nothing is said later, anything may be
-  pub not_asked : (fault : EditFault) (Later : Type 0) → NotAsked task before a b list fault ⊥ → NotAsked task before a b list fault Later
-  not_asked fault Later (inl h) = inl h
-  not_asked fault Later (inr (run, inl h)) = inr (run, inl h)
-  not_asked fault Later (inr (run, inr (whole, inl h))) = inr (run, inr (whole, inl h))
-  not_asked fault Later (inr (run, inr (whole, inr (some, inl h)))) = inr (run, inr (whole, inr (some, inl h)))
-  not_asked fault Later (inr (run, inr (whole, inr (some, inr (room, inl h))))) = inr (run, inr (whole, inr (some, inr (room, inl h))))
-  not_asked fault Later (inr (run, inr (whole, inr (some, inr (room, inr (known, h)))))) = absurd h
-
   module _ (prices : ℕ → ℕ) (asked : Sheet) (is : IsAsked task before a b list asked) where
     later : (fault : EditFault) (Later : Type 0) → Later → NotAsked task before a b list fault Later
     later fault Later h = inr (is.run, inr (is.whole, inr (is.some, inr (is.room, inr (is.known, h)))))
 
     known_asked : AllKnown task (actions asked)
-    known_asked = rw is.new_actions (put_in_each (actions before) a b list is.run.0 is.run.1 (Known task) (known_front task (actions before) list is.known) (known_back task (actions before) list is.known))
+    known_asked k l =
+        let numbers = put_in_all (actions before) a b list (Known task) (All-from_get_or (Known task) _ 0 (known_front task (actions before) list is.known)) (All-from_get_or (Known task) _ 0 (known_back task (actions before) list is.known)) in
+        All-get_or (Known task) (actions asked) k 0 l (rw is.new_actions numbers)
 
     costs : sum_by prices (actions asked) + sum_by prices (from_to (actions before) a b) ≡ sum_by prices (actions before) + sum_by prices list
     costs = ap (λ (l : List ℕ). sum_by prices l + sum_by prices (from_to (actions before) a b)) is.new_actions ∙ sum_by-put_in (actions before) a b list is.run.0 is.run.1 prices

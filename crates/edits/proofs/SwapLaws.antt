@@ -55,11 +55,11 @@ module _ (a k b : ℕ) (left : a < k) (right : k ≤ b) (x : ℕ) where
   pub comes_past : b < x → comes a k b x ≡ x
   comes_past l = grind (arith, nat_tests)
 
--- all numbers below n that come from a member were put in
-pub carried_all : (a k b : ℕ) → a < k → k ≤ b → b < 128 → (set made : BitSet 2) (n : ℕ) → 128 ≤ n → ((y : ℕ) → member made.words y ≡ (ltb y n && member set.words (comes a k b y))) → (x : ℕ) → member made.words x ≡ member set.words (comes a k b x)
-carried_all a k b left right room set made n all is x = ⊎_elim
-    (λ l. is x ∙ ap (λ (t : Bool). t && member set.words (comes a k b x)) (lt-ltb x n (omega arith)))
-    (λ l. member_room made x l ∙ sym (ap (member set.words) (comes_past a k b left right x (omega arith)) ∙ member_room set x l))
+-- what is carried of a set is below 128, as the set is
+pub carried_all : (a k b : ℕ) → a < k → k ≤ b → b < 128 → (set : BitSet 2) (x : ℕ) → (ltb x 128 && member set.words (comes a k b x)) ≡ member set.words (comes a k b x)
+carried_all a k b left right room set x = ⊎_elim
+    (λ l. rw (lt-ltb x 128 l))
+    (λ l. let e = comes_past a k b left right x (omega arith) in let f = member_room set x l in grind (arith, nat_tests))
     (cases_lt x 128)
 
 -- no block begins past the room

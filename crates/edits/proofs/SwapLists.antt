@@ -1,8 +1,8 @@
 -- The actions of a sheet after swap.
-use Rattle.std.proofs.Common.{◌≡◌, ℕ, zero, suc, ◌+◌, ◌-◌, ◌<◌, ◌≤◌, List, [], ◌∷◌, ◌++◌, map, length, get_or, take, drop, Some, Ok, Err, sum_by, Result, unwrap_or, sym, refl, ap, ◌∙◌, ⊎_elim, arith, rules, MatchResult}
-use Rattle.std.proofs.lemmas.List.FromFn.{fill_by_all, length-map-range_with_len, map-range_with_len_more}
-use Rattle.std.proofs.lemmas.List.{drop-drop, places, take-append-drop}
-use Rattle.std.proofs.lemmas.Option.{slice_get-get_or, slice_get_past}
+use Rattle.std.proofs.Common.{◌≡◌, ℕ, suc, ◌+◌, ◌-◌, ◌<◌, ◌≤◌, List, [], ◌∷◌, ◌++◌, map, length, get_or, take, drop, Some, sum_by, unwrap_or, sym, refl, ap, append_assoc, add-one, length-drop, ◌∙◌, ⊎_elim, arith, rules}
+use Rattle.std.proofs.lemmas.List.FromFn.{fill_by_all}
+use Rattle.std.proofs.lemmas.List.{drop-drop, places, take_all, take-append-drop}
+use Rattle.std.proofs.lemmas.Option.{slice_get-get_or, slice_get_past, unwrap_or-slice_get}
 use Rattle.std.proofs.lemmas.List.Sums.{sum_by-append}
 use Rattle.std.proofs.lemmas.Bool.{cases_lt}
 use Rattle.std.proofs.lemmas.Bool.Decides.{nat_tests}
@@ -21,13 +21,8 @@ same_slice_get (x ∷ xs) [] h = let e = h 0 in absurd (let z : ◌≡◌ {A = �
 same_slice_get (x ∷ xs) (y ∷ ys) h = let e = h 0 in let f = same_slice_get xs ys (λ i. h (suc i)) in cc
 
 -- where the entries are the same, so are the values read
-get_or-slice_get : (xs : List ℕ) (i : ℕ) → get_or xs i 0 ≡ unwrap_or (slice_get xs i) 0
-get_or-slice_get [] i = refl
-get_or-slice_get (x ∷ xs) zero = refl
-get_or-slice_get (x ∷ xs) (suc i) = get_or-slice_get xs i
-
 pub same_get_or : (xs ys : List ℕ) (i j : ℕ) → slice_get ys j ≡ slice_get xs i → get_or ys j 0 ≡ get_or xs i 0
-same_get_or xs ys i j e = get_or-slice_get ys j ∙ ap (λ o. unwrap_or o 0) e ∙ sym (get_or-slice_get xs i)
+same_get_or xs ys i j e = sym (unwrap_or-slice_get ys j 0) ∙ ap (λ o. unwrap_or o 0) e ∙ unwrap_or-slice_get xs i 0
 
 -- a list from i on is its run ahead of j, and what is from j on
 cut : (xs : List ℕ) (i j : ℕ) → i ≤ j → between i j xs ++ drop j xs ≡ drop i xs
@@ -40,6 +35,10 @@ module _ (xs : List ℕ) (a k b : ℕ) (left : a < k) (right : k ≤ b) (size : 
   -- the list with the runs a to k - 1 and k to b in each other's place
   abbrev turned : List ℕ
   turned = take a xs ++ (between k (suc b) xs ++ (between a k xs ++ drop (suc b) xs))
+
+  -- the same as the code puts it together
+  abbrev run_by_run : List ℕ → List ℕ
+  run_by_run zs = (take a zs ++ (take (b + 1 - k) (drop k zs) ++ take (k - a) (drop a zs))) ++ take (length zs - (b + 1)) (drop (b + 1) zs)
 
   length-turned : length turned ≡ length xs
   length-turned = search (rules, places)
@@ -69,7 +68,8 @@ module _ (xs : List ℕ) (a k b : ℕ) (left : a < k) (right : k ≤ b) (size : 
   slice_get-made ys n e made x =
       ap (λ (zs : List ℕ). slice_get zs x) (made ∙ sym (fill_by_all (λ y. get_or xs (comes a k b y) 0) turned n 0 (length-turned ∙ sym e) (λ y l. get_or-turned y (omega arith)))) ∙ slice_get-turned x
 
--- one more is pushed where there is room
-pub made_more : (B : Type 0) (r : Result (Unit {0}) ℕ) (f : ℕ → ℕ) (x v : ℕ) (old new : List ℕ) → MatchResult r (λ _. (length old < 128) × (new ≡ old ++ v ∷ [])) (λ e. (length old ≡ 128) × B × (e ≡ v)) → x < 128 → v ≡ f x → old ≡ map f (range_with_len 0 x) → new ≡ map f (range_with_len 0 (x + 1))
-made_more B (Ok _) f x v old new (_, e) l here so_far = e ∙ ap (λ (zs : List ℕ). zs ++ v ∷ []) so_far ∙ ap (λ w. map f (range_with_len 0 x) ++ w ∷ []) here ∙ sym (map-range_with_len_more f 0 x x (omega arith))
-made_more B (Err _) f x v old new (full, _, _) l here so_far = absurd (omega (arith, ap length so_far, length-map-range_with_len f 0 x))
+  -- the list that was made run by run
+  pub laid_turned : length xs ≤ 128 → (zs : List ℕ) → zs ≡ xs → (ys : List ℕ) → (length (run_by_run zs) ≤ 128 → ys ≡ run_by_run zs) → (x : ℕ) → slice_get ys x ≡ slice_get xs (comes a k b x)
+  laid_turned few zs e ys made x =
+      let whole : run_by_run zs ≡ turned = rw e (simp (add-one, append_assoc) (ap (λ (ds : List ℕ). take a xs ++ (between k (suc b) xs ++ (between a k xs ++ ds))) (take_all _ (drop (suc b) xs) (omega (arith, length-drop (suc b) xs))))) in
+      ap (λ (l : List ℕ). slice_get l x) (made (rw (whole, length-turned) few) ∙ whole) ∙ slice_get-turned x

@@ -13,10 +13,7 @@ use task::{Tariff, Task};
 fn with_no_saving(answer: Result<(), EditFault>) -> Result<u32, EditFault>
     ensures { result ≡ with_no_saving answer }
 {
-    match answer {
-        Ok(()) => Ok(0),
-        Err(fault) => Err(fault),
-    }
+    answer.map(|()| 0)
 }
 
 // Carries the edit out, and says what it saves; or refuses it, and the sheet stays as it was.

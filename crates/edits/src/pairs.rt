@@ -1,41 +1,35 @@
-// Pairs of positions, as ties and blocks are, and the rows that keep them.
-ghost use Rattle.std.specs.Prelude.{◌≡◌, ℕ, ◌<◌, Bool, ◌&&◌, length, nat_lt};
+// Pairs of positions, as ties and blocks are.
+ghost use Rattle.std.specs.Prelude.{◌≡◌, ℕ, ◌<◌, Bool, true};
 ghost use Rattle.sets.specs.Member.{member};
 ghost use Rattle.sheet.specs.Rows.{in_row};
 
 use sets::bits::BitSet;
+use sheet::Relation;
 
-// Which of the pairs of positions are meant.
-pub trait Pairs {
-    ghost pairs: { Self → ℕ → ℕ → Bool };
-
-    fn has(&self, x: usize, y: usize) -> bool
-        requires { (x < 128) × (y < 128) }
-        ensures { result ≡ pairs self.now x y };
+// The positions that pass with `x`.
+fn row_of<F: Fn(usize, usize) -> bool>(passes: &F, x: usize) -> BitSet<2>
+    requires { (y : ℕ) → y < 128 → F.pre passes.now x y }
+    ensures test { (y : ℕ) → y < 128 → (passed : Bool) × F.post passes.now x y passed × (member result.words y ≡ passed) }
+{
+    BitSet::below_where(
+        128,
+        |y: usize| -> bool
+            requires { F.pre passes.now x y }
+            ensures { F.post passes.entry.now x y result }
+        { passes(x, y) },
+    )
 }
 
-// The positions that `x` is paired with.
-fn row_of<P: Pairs>(all: &P, x: usize) -> BitSet<2>
-    requires { x < 128 }
-    ensures { (y : ℕ) → member result.words y ≡ (nat_lt y 128 && P.Pairs.pairs all.now x y) }
+// The pairs of positions that pass, in rows.
+pub fn rows_of<F: Fn(usize, usize) -> bool>(passes: F) -> Relation
+    requires { (x y : ℕ) → x < 128 → y < 128 → F.pre passes x y }
+    ensures pairs { (x y : ℕ) → x < 128 → y < 128 → (passed : Bool) × F.post passes x y passed × (in_row result.rows x y ≡ passed) }
+    ensures room { (x y : ℕ) → in_row result.rows x y ≡ true → (x < 128) × (y < 128) }
 {
-    let mut row = BitSet::empty();
-    for y in 0..128 {
-        if all.has(x, y) {
-            row.insert(y);
-        }
-    }
-    row
-}
-
-// All pairs, a row for each position.
-pub fn rows_of<P: Pairs>(all: &P) -> [BitSet<2>; 128]
-    ensures rows { length result ≡ 128 }
-    ensures pairs { (x y : ℕ) → in_row result x y ≡ (nat_lt x 128 && (nat_lt y 128 && P.Pairs.pairs all.now x y)) }
-{
-    let mut rows = [BitSet::empty(); 128];
-    for x in 0..128 {
-        rows[x] = row_of(all, x);
-    }
-    rows
+    Relation::by_rows(
+        |x: usize| -> BitSet<2>
+            requires { (y : ℕ) → y < 128 → F.pre passes x y }
+            ensures { (y : ℕ) → y < 128 → (passed : Bool) × F.post passes x y passed × (member result.words y ≡ passed) }
+        { row_of(&passes, x) },
+    )
 }

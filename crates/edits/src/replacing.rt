@@ -6,47 +6,58 @@ ghost use Rattle.sets.specs.Contents.{contents};
 ghost use Rattle.sheet.specs.Sheets.{actions, outline};
 ghost use Rattle.sheet.specs.Verdicts.{AllKnown, FirstUnknown};
 
-use crate::pairs::{Pairs, rows_of};
+use crate::pairs::rows_of;
+use crate::steps::listed;
 use sets::list::ArrayVec;
 use shaping::{EditFault, adopt};
-use sheet::{Sheet, SheetFault};
+use sheet::{Sheet, SheetFault, first_unknown};
 use task::{Tariff, Task};
 
-// Where steps come in: `count` of them in place of `first` to `last`.
-#[derive(Clone, Copy)]
-struct Change {
+// A list of actions that comes in place of `first` to `last` of a sheet, which has room for it.
+#[derive(Drop)]
+struct Offer<'s> {
+    sheet: &'s Sheet,
     first: usize,
     last: usize,
-    count: usize,
-    ghost begins: { first < 128 },
+    list: &'s [u32],
+    ghost run: { AreRun (outline sheet.now) first last },
     ghost ends: { last < 128 },
-    ghost few: { count ≤ 128 },
+    ghost some: { 0 < length list.now },
+    ghost room: { HasRoom (outline sheet.now) first last (length list.now) },
+    ghost small: { (k : ℕ) → slice_index list.now k < 128 },
 }
 
-impl Change {
-    // Where a position behind the new steps was.
-    fn before(self, x: usize) -> usize
-        requires { x < 128 }
-        ensures { result ≡ was self.first self.last self.count x }
+impl<'s> Offer<'s> {
+    // The position behind the new steps.
+    fn end(&self) -> usize
+        ensures { result ≡ self.now.first + length self.now.list.now }
     {
-        (x + self.last + 1).saturating_sub(self.first + self.count)
+        self.first + self.list.len()
+    }
+
+    // Where a position behind the new steps was.
+    fn before(&self, x: usize) -> usize
+        requires { x < 128 }
+        ensures { result ≡ was self.now.first self.now.last (length self.now.list.now) x }
+    {
+        (x + self.last + 1).saturating_sub(self.end())
     }
 
     // Whether `x` is one of the new steps.
-    fn brings(self, x: usize) -> bool
-        ensures { result ≡ is_new self.first self.count x }
+    fn brings(&self, x: usize) -> bool
+        ensures { result ≡ is_new self.now.first (length self.now.list.now) x }
     {
-        self.first <= x && x < self.first + self.count
+        self.first <= x && x < self.end()
     }
 
     // The position whose ties `x` takes over.
-    fn model(self, x: usize) -> usize
+    fn model(&self, x: usize) -> usize
         requires { x < 128 }
-        ensures { result ≡ stood self.first self.last self.count x }
+        ensures { result ≡ stood self.now.first self.now.last (length self.now.list.now) x }
     {
         if x < self.first {
             x
-        } else if x < self.first + self.count {
+        } else if x < self.end() {
             self.first
         } else {
             self.before(x)
@@ -54,135 +65,70 @@ impl Change {
     }
 
     // Whether the run `c` to `d` has none or all of the new steps.
-    fn spares(self, c: usize, d: usize) -> bool
+    fn spares(&self, c: usize, d: usize) -> bool
         requires { d < 128 }
-        ensures { result ≡ none_or_all self.first self.count c d }
+        ensures { result ≡ none_or_all self.now.first (length self.now.list.now) c d }
     {
-        let end = self.first + self.count;
+        let end = self.end();
         d < self.first || end <= c || (c <= self.first && end <= d + 1)
     }
-}
 
-// The ties of the sheet asked for.
-#[derive(Drop)]
-struct Ties<'s> {
-    sheet: &'s Sheet,
-    change: Change,
-}
-
-impl<'s> Pairs for Ties<'s> {
-    ghost pairs = { λ t. (replaced (outline t.sheet.now) t.change.first t.change.last t.change.count).tied };
-
-    fn has(&self, x: usize, y: usize) -> bool {
-        if self.change.brings(x) && self.change.brings(y) {
+    // Whether `x` is tied before `y` in the sheet asked for.
+    fn is_tied(&self, x: usize, y: usize) -> bool
+        requires { (x < 128) × (y < 128) }
+        ensures { result ≡ (replaced (outline self.now.sheet.now) self.now.first self.now.last (length self.now.list.now)).tied x y }
+    {
+        if self.brings(x) && self.brings(y) {
             return x < y;
         }
-        self.sheet
-            .is_tied(self.change.model(x), self.change.model(y))
+        self.sheet.is_tied(self.model(x), self.model(y))
     }
-}
 
-// The blocks of the sheet asked for.
-#[derive(Drop)]
-struct Blocks<'s> {
-    sheet: &'s Sheet,
-    change: Change,
-}
-
-impl<'s> Pairs for Blocks<'s> {
-    ghost pairs = { λ t. (replaced (outline t.sheet.now) t.change.first t.change.last t.change.count).block };
-
-    fn has(&self, c: usize, d: usize) -> bool {
-        let change = self.change;
-        if c == change.first && d + 1 == change.first + change.count {
-            return change.count >= 2;
+    // Whether `c` to `d` is a block of the sheet asked for.
+    fn is_block(&self, c: usize, d: usize) -> bool
+        requires { (c < 128) × (d < 128) }
+        ensures { result ≡ (replaced (outline self.now.sheet.now) self.now.first self.now.last (length self.now.list.now)).block c d }
+    {
+        if c == self.first && d + 1 == self.end() {
+            return self.list.len() >= 2;
         }
-        let end = if d < change.first {
-            d
-        } else {
-            change.before(d)
-        };
-        change.spares(c, d) && self.sheet.is_block(change.model(c), end)
+        let end = if d < self.first { d } else { self.before(d) };
+        self.spares(c, d) && self.sheet.is_block(self.model(c), end)
     }
-}
 
-// The action number at `k` of the sheet's steps and then the list.
-fn number_at(sheet: &Sheet, list: &[u32], k: usize) -> u32
-    requires { k < length (actions sheet.now) + length list.now }
-    ensures { result ≡ slice_index (actions sheet.now ++ list.now) k }
-{
-    let steps = sheet.actions();
-    if k < steps.len() {
-        u32::from(steps[k])
-    } else {
-        list[k - steps.len()]
+    // The steps of the sheet asked for.
+    fn steps(&self) -> ArrayVec<u8, 128>
+        ensures { contents result ≡ put_in (actions self.now.sheet.now) self.now.first self.now.last self.now.list.now }
+    {
+        let steps = self.sheet.actions();
+        let front = steps[..self.first].iter().copied();
+        let list = self.list.iter().map(|number| *number as u8);
+        let rest = steps[self.last + 1..].iter().copied();
+        listed(front.chain(list).chain(rest))
+    }
+
+    // The sheet asked for.
+    fn asked(&self) -> Sheet
+        requires { IsMember (outline self.now.sheet.now) self.now.first self.now.last }
+        ensures steps { actions result ≡ put_in (actions self.now.sheet.now) self.now.first self.now.last self.now.list.now }
+        ensures order { outline result ≡ replaced (outline self.now.sheet.now) self.now.first self.now.last (length self.now.list.now) }
+    {
+        Sheet {
+            steps: self.steps(),
+            behind: rows_of(|x, y| self.is_tied(x, y)),
+            blocks: rows_of(|c, d| self.is_block(c, d)),
+        }
     }
 }
 
 // The first action, of the sheet and then of the list, that the task lacks.
-fn first_unknown(task: &Task, sheet: &Sheet, list: &[u32]) -> Option<u32>
-    requires { length list.now ≤ 128 }
+fn unknown_asked(task: &Task, sheet: &Sheet, list: &[u32]) -> Option<u32>
     ensures { MatchOption result
         (AllKnown task.now (actions sheet.now ++ list.now))
         (FirstUnknown task.now (actions sheet.now ++ list.now)) }
 {
-    for k in 0..sheet.steps() + list.len() {
-        let number = number_at(sheet, list, k);
-        if number as usize >= task.actions.len() {
-            return Some(number);
-        }
-    }
-    None
-}
-
-// The action number at `x` with the list in place of `a` to `b`.
-fn step_at(sheet: &Sheet, a: usize, b: usize, list: &[u32], x: usize) -> u8
-    requires { (AreRun (outline sheet.now) a b) × ((x < (replaced (outline sheet.now) a b (length list.now)).size) × ((((k : ℕ) → slice_index list.now k < 128)) × (x < 128))) }
-    ensures { result ≡ slice_index (put_in (actions sheet.now) a b list.now) x }
-{
-    let steps = sheet.actions();
-    let end = a + list.len();
-    if x < a {
-        steps[x]
-    } else if x < end {
-        list[x - a] as u8
-    } else {
-        steps[x + b + 1 - end]
-    }
-}
-
-// The steps with the list in place of `a` to `b`.
-fn new_steps(sheet: &Sheet, a: usize, b: usize, list: &[u32]) -> ArrayVec<u8, 128>
-    requires { (AreRun (outline sheet.now) a b) × ((HasRoom (outline sheet.now) a b (length list.now)) × (((k : ℕ) → slice_index list.now k < 128))) }
-    ensures { contents result ≡ put_in (actions sheet.now) a b list.now }
-{
-    let mut steps = ArrayVec::new(0);
-    for x in 0..sheet.steps() + a + list.len() - (b + 1) {
-        let _ = steps.push(step_at(sheet, a, b, list, x));
-    }
-    steps
-}
-
-// The sheet with the list in place of `a` to `b`.
-fn with_list(sheet: &Sheet, a: usize, b: usize, list: &[u32]) -> Sheet
-    requires run { a ≤ b }
-    requires whole { IsMember (outline sheet.now) a b }
-    requires some { 0 < length list.now }
-    requires room { HasRoom (outline sheet.now) a b (length list.now) }
-    requires small { (k : ℕ) → slice_index list.now k < 128 }
-    ensures steps { actions result ≡ put_in (actions sheet.now) a b list.now }
-    ensures order { outline result ≡ replaced (outline sheet.now) a b (length list.now) }
-{
-    let change = Change {
-        first: a,
-        last: b,
-        count: list.len(),
-    };
-    Sheet {
-        steps: new_steps(sheet, a, b, list),
-        behind: rows_of(&Ties { sheet, change }),
-        blocks: rows_of(&Blocks { sheet, change }),
-    }
+    let steps = sheet.actions().iter().copied().map(u32::from);
+    first_unknown(task, steps.chain(list.iter().copied()))
 }
 
 // The sheet asked for, or why there is none.
@@ -210,10 +156,16 @@ fn asked_for(
     if list.len() > 128 - (n - (b + 1 - a)) {
         return Err(EditFault::Sheet(SheetFault::TooLong));
     }
-    match first_unknown(task, sheet, list) {
-        Some(action) => Err(EditFault::Sheet(SheetFault::UnknownAction(action))),
-        None => Ok(with_list(sheet, a, b, list)),
+    if let Some(action) = unknown_asked(task, sheet, list) {
+        return Err(EditFault::Sheet(SheetFault::UnknownAction(action)));
     }
+    let offer = Offer {
+        sheet,
+        first: a,
+        last: b,
+        list,
+    };
+    Ok(offer.asked())
 }
 
 // Puts the list in place of `a` to `b`, a block or one position, and says how much this saves. The new steps are tied in

@@ -8,10 +8,11 @@ ghost use Rattle.sets.specs.Member.{member};
 ghost use Rattle.sheet.specs.Rows.{in_row};
 ghost use Rattle.sheet.specs.Sheets.{actions, outline};
 
+use crate::steps::listed;
 use sets::bits::BitSet;
 use sets::list::ArrayVec;
 use shaping::EditFault;
-use sheet::{Sheet, row};
+use sheet::{Relation, Sheet};
 
 // Two runs of positions that change places: from `first` on and ahead of `second`, and from there to `last`.
 #[derive(Clone, Copy)]
@@ -62,17 +63,11 @@ impl Runs {
         }
     }
 
-    // The numbers that come from one in `set`.
+    // The positions that come from one in `set`.
     fn carried(self, set: &BitSet<2>) -> BitSet<2>
         ensures { (x : ℕ) → member result.words x ≡ member set.now.words (comes self.first self.second self.last x) }
     {
-        let mut carried = BitSet::empty();
-        for x in 0..128 {
-            if set.has(self.source(x)) {
-                carried.insert(x);
-            }
-        }
-        carried
+        BitSet::below_where(128, |x| set.has(self.source(x)))
     }
 
     // The last positions with which a run from `c` on has both runs.
@@ -90,44 +85,49 @@ impl Runs {
         ensures { (d : ℕ) → member result.words d ≡ (swapped (outline sheet.now) self.first self.second self.last).block c d }
     {
         let from = self.source(c);
-        let moving = row(&sheet.blocks, from).minus(&self.covering(from));
+        let moving = sheet.blocks.row(from).minus(&self.covering(from));
         let both = self.covering(c);
-        let staying = row(&sheet.blocks, c).intersection(&both);
+        let staying = sheet.blocks.row(c).intersection(&both);
         self.carried(&moving).minus(&both).union(&staying)
     }
 
-    fn moved_blocks(self, sheet: &Sheet) -> [BitSet<2>; 128]
-        ensures rows { length result ≡ 128 }
-        ensures blocks { (c d : ℕ) → in_row result c d ≡ (swapped (outline sheet.now) self.first self.second self.last).block c d }
+    fn moved_blocks(self, sheet: &Sheet) -> Relation
+        ensures { (c d : ℕ) → in_row result.rows c d ≡ (swapped (outline sheet.now) self.first self.second self.last).block c d }
     {
-        let mut rows = sheet.blocks;
-        for c in 0..128 {
-            rows[c] = self.moved_ends(sheet, c);
-        }
-        rows
+        Relation::by_rows(|c| self.moved_ends(sheet, c))
     }
 
-    fn moved_ties(self, sheet: &Sheet) -> [BitSet<2>; 128]
-        ensures rows { length result ≡ 128 }
-        ensures ties { (i j : ℕ) → in_row result i j ≡ (swapped (outline sheet.now) self.first self.second self.last).tied i j }
+    // The positions that `i` is tied before afterwards.
+    fn moved_behind(self, sheet: &Sheet, i: usize) -> BitSet<2>
+        ensures { (j : ℕ) → member result.words j ≡ (swapped (outline sheet.now) self.first self.second self.last).tied i j }
     {
-        let mut rows = sheet.behind;
-        for i in 0..128 {
-            rows[i] = self.carried(&row(&sheet.behind, self.source(i)));
-        }
-        rows
+        self.carried(&sheet.behind.row(self.source(i)))
+    }
+
+    fn moved_ties(self, sheet: &Sheet) -> Relation
+        ensures { (i j : ℕ) → in_row result.rows i j ≡ (swapped (outline sheet.now) self.first self.second self.last).tied i j }
+    {
+        Relation::by_rows(|i| self.moved_behind(sheet, i))
     }
 
     fn moved_steps(self, sheet: &Sheet) -> ArrayVec<u8, 128>
         requires { self.last < length (actions sheet.now) }
         ensures { (x : ℕ) → slice_get (contents result) x ≡ slice_get (actions sheet.now) (comes self.first self.second self.last x) }
     {
-        let old = sheet.steps.as_slice();
-        let mut steps = ArrayVec::new(0);
-        for x in 0..old.len() {
-            let _ = steps.push(old[self.source(x)]);
-        }
-        steps
+        let Runs {
+            first,
+            second,
+            last,
+        } = self;
+        let steps = sheet.actions();
+        let turned = steps[second..last + 1].iter().chain(&steps[first..second]);
+        listed(
+            steps[..first]
+                .iter()
+                .chain(turned)
+                .chain(&steps[last + 1..])
+                .copied(),
+        )
     }
 }
 

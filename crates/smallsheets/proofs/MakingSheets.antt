@@ -88,11 +88,9 @@ made_sheet small t =
     let same = outlines_same (outlined steps behind blocks) (outline_of small) (ap length has) tied block in (
       record {
         steps = steps;
-        behind = behind;
-        blocks = blocks;
+        behind = record { rows = behind; size = ties };
+        blocks = record { rows = blocks; size = groups };
         numbers = λ i. subst (λ (xs : List ℕ). get_or xs i 0 < 128) (sym has) (get_or_low 128 (omega arith) small.actions v.1 i);
-        ties = ties;
-        groups = groups;
         rules = rules_kept _ (outline_of small) same (rules_from_test small u.0);
       },
       record { same_actions = has; same_ties = tied; same_blocks = block },

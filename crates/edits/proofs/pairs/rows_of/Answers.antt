@@ -1,13 +1,15 @@
-use Rattle.std.proofs.Common.{◌&&◌, ltb, refl, ◌∙◌, arith, length-set}
-use Rattle.std.proofs.lemmas.Bool.Decides.{nat_tests}
+use Rattle.std.proofs.Common.{◌≡◌, ℕ, ◌<◌, Bool, rules, ◌∙◌, ⊎_elim, sym}
+use Rattle.std.proofs.lemmas.Bool.{cases_lt, false≢true}
 use Rattle.edits.proofs.pairs.rows_of.Goals as goal
-use Rattle.sheet.proofs.RowLaws.{row_empty, table_more}
+use Rattle.sets.specs.Member.{member}
+use Rattle.sheet.proofs.RowLaws.{row_lt}
 
-pub loop-x-init : goal.loop-x-init
-loop-x-init g c = (refl, λ x y. row_empty 128 c.empty-rows.result c.empty-rows.ensures x y ∙ grind (arith, nat_tests))
+pub returns-clause-pairs : goal.returns-clause-pairs
+returns-clause-pairs g c x y k l =
+    let r = c.by_rows.ensures.rows x k in
+    let e = r.1 in
+    let t : (z : ℕ) → z < 128 → (b : Bool) × goal.F-post g c.args.passes x z b × (member r.0.words z ≡ b) = search rules in
+    let u = t y l in (u.0, u.1, r.2 y ∙ u.2)
 
-pub loop-x-preserved : goal.loop-x-preserved
-loop-x-preserved g c = (
-  length-set _ _ _ ∙ c.loop-x.invariant.0,
-  table_more (λ x y. ltb y 128 && g.P.Pairs.pairs c.args.all.now x y) c.loop-x.rows c.loop-x.x c.row_of.result (omega (arith, c.loop-x.invariant.0)) c.loop-x.invariant.1 c.row_of.ensures,
-)
+pub returns-clause-room : goal.returns-clause-room
+returns-clause-room g c x y e = (⊎_elim (λ l. l) (λ l. absurd (false≢true (sym (c.by_rows.ensures.past x y l) ∙ e))) (cases_lt x 128), row_lt c.by_rows.result.rows x y e)

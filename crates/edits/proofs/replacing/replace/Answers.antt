@@ -1,12 +1,7 @@
 use Rattle.std.proofs.Common.{refl, arith}
 use Rattle.std.proofs.lemmas.Result.{err_from_is_err_and}
-use Rattle.edits.proofs.ReplaceAnswers.{accepted, not_asked, not_cheaper, refused_by_check}
+use Rattle.edits.proofs.ReplaceAnswers.{accepted, not_cheaper, refused_by_check}
 use Rattle.edits.proofs.replacing.replace.Goals as goal
-
-pub returns-in_err-asked : goal.returns-in_err-asked
-returns-in_err-asked g c =
-    let p = err_from_is_err_and c.from_residual.result c.from_residual.ensures.1 in
-    rw (p.1, p.2) (not_asked c.args.task.now c.args.sheet.now _ _ _ _ _ c.in_err-asked.ensures, refl)
 
 pub returns-then-before-after : goal.returns-then-before-after
 returns-then-before-after g c = (

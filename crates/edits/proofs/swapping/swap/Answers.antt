@@ -15,10 +15,8 @@ invariant_of-sheet c =
     let before = c.args.sheet.now in
     let (is_k, parts) = c.in-Some.ensures in
     let free = ap (λ v. (outline before).tied (v - 1) v) is_k ∙ sym c.if-is_tied.ensures in
-    let order = order_is before c.moved_steps.result c.moved_ties.result c.moved_blocks.result _ _ _ parts c.moved_steps.ensures c.moved_ties.ensures.ties c.moved_blocks.ensures.blocks in record {
+    let order = order_is before c.moved_steps.result c.moved_ties.result.rows c.moved_blocks.result.rows _ _ _ parts c.moved_steps.ensures c.moved_ties.ensures c.moved_blocks.ensures in record {
       numbers = λ x. subst (λ (v : ℕ). v < 128) (sym (same_get_or (actions before) _ _ x (c.moved_steps.ensures x))) (before.numbers _);
-      ties = c.moved_ties.ensures.rows;
-      groups = c.moved_blocks.ensures.rows;
       rules = rules_kept _ _ order (swap_keeps_rules (outline before) (sheet_rules before) _ _ _ parts free);
     }
 
@@ -27,5 +25,5 @@ returns c =
     let before = c.args.sheet.now in
     let (is_k, parts) = c.in-Some.ensures in
     let free = ap (λ v. (outline before).tied (v - 1) v) is_k ∙ sym c.if-is_tied.ensures in
-    let order = order_is before c.moved_steps.result c.moved_ties.result c.moved_blocks.result _ _ _ parts c.moved_steps.ensures c.moved_ties.ensures.ties c.moved_blocks.ensures.blocks in
+    let order = order_is before c.moved_steps.result c.moved_ties.result.rows c.moved_blocks.result.rows _ _ _ parts c.moved_steps.ensures c.moved_ties.ensures c.moved_blocks.ensures in
     swapped_is before _ _ _ _ _ is_k parts free order c.moved_steps.ensures

@@ -1,21 +1,19 @@
-use Rattle.std.proofs.Common.{ℕ, List, length, get_or, ap, ◌∙◌, arith}
-use Rattle.edits.proofs.SwapLists.{made_more, slice_get-made}
+use Rattle.std.proofs.lemmas.Iterator.{YieldsList-from_slice}
+use Rattle.std.proofs.lemmas.Iterator.Consumers.{YieldsList-from_chain, YieldsList-from_copied, YieldsList-at}
+use Rattle.edits.proofs.SwapLists.{laid_turned}
 use Rattle.edits.proofs.swapping.Runs.moved_steps.Goals as goal
-use Rattle.orders.specs.Edits.{comes}
 use Rattle.sets.proofs.Held.{contents_fit}
+use Rattle.sets.specs.Contents.{contents}
 use Rattle.sheet.specs.Sheets.{actions}
-
-pub loop-x-preserved : goal.loop-x-preserved
-loop-x-preserved c =
-    let runs = c.args.self in
-    let xs = actions c.args.sheet.now in
-    made_more _ c.push.result (λ y. get_or xs (comes runs.first runs.second runs.last y) 0) c.loop-x.x _ _ _ c.push.ensures
-    (omega (arith, c.loop-x-test.true, ap length c.as_slice-old.ensures, contents_fit c.args.sheet.now.steps))
-    (ap (λ (ys : List ℕ). get_or ys c.source.result 0) c.as_slice-old.ensures ∙ ap (λ y. get_or xs y 0) c.source.ensures)
-    c.loop-x.invariant
 
 pub returns : goal.returns
 returns c =
+    let xs = c.actions-steps.result.now in
     let runs = c.args.self in
-    slice_get-made (actions c.args.sheet.now) runs.first runs.second runs.last runs.ahead runs.behind c.requires _ c.loop-x.x
-    (omega (arith, c.loop-x-test.false, c.loop-x.auto.x-end, ap length c.as_slice-old.ensures)) c.loop-x.invariant
+    laid_turned (actions c.args.sheet.now) runs.first runs.second runs.last runs.ahead runs.behind c.requires (contents_fit c.args.sheet.now.steps) xs c.actions-steps.ensures (contents c.listed.result) (c.listed.ensures _
+    (YieldsList-from_copied (YieldsList-at c.copied.ensures.source (YieldsList-from_chain
+    (YieldsList-at c.chain-2.ensures.first (YieldsList-from_chain
+    (YieldsList-at c.chain.ensures.first (YieldsList-from_slice _ c.iter-2.ensures.rest))
+    (YieldsList-at c.chain.ensures.second (YieldsList-from_chain (YieldsList-at c.chain-turned.ensures.first (YieldsList-from_slice _ c.iter.ensures.rest)) (YieldsList-from_slice _ c.chain-turned.ensures.second.0) c.chain-turned.ensures.first_done c.chain-turned.ensures.second_done))
+    c.chain.ensures.first_done c.chain.ensures.second_done))
+    (YieldsList-from_slice _ c.chain-2.ensures.second.0) c.chain-2.ensures.first_done c.chain-2.ensures.second_done))).runs)
