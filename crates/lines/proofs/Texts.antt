@@ -1,9 +1,8 @@
 -- Texts, part by part.
-use Rattle.std.proofs.Common.{◌≡◌, ℕ, ◌+◌, ◌/◌, ◌^◌, ◌<◌, ◌≤◌, List, [], ◌∷◌, ◌++◌, length, get_or, drop, decimal, refl, ap, ◌∙◌, append_assoc, length-append}
+use Rattle.std.proofs.Common.{◌≡◌, ℕ, ◌+◌, ◌<◌, ◌≤◌, List, [], ◌∷◌, ◌++◌, length, get_or, drop, refl, ap, ◌∙◌, append_assoc, length-append}
 use Rattle.std.specs.List.{flat_map}
-use Rattle.std.proofs.lemmas.Fmt.{decimal_step}
-use Rattle.std.proofs.lemmas.List.{at_drop_more, at_drop_all, length_push}
-use Rattle.lines.specs.Text.{field, line_text, price_line, step_line, steps_from, listing_text}
+use Rattle.std.proofs.lemmas.List.{at_drop_more, at_drop_all}
+use Rattle.lines.specs.Text.{field, line_text, step_line, steps_from}
 
 -- a text is a part and then the rest
 pub record Parts (text part rest : List ℕ) : Type 0 where
@@ -12,10 +11,6 @@ pub record Parts (text part rest : List ℕ) : Type 0 where
 
 pub parts : {text : List ℕ} (part rest : List ℕ) → text ≡ part ++ rest → Parts text part rest
 parts part rest e = record { whole = e; sizes = ap length e ∙ length-append part rest }
-
--- a number has one digit more than its tenth
-pub digits_more : (n : ℕ) → 10 ≤ n → n < 2 ^ 64 → length (decimal n) ≡ length (decimal (n / 10)) + 1
-digits_more n some fits = ap length (decimal_step n some fits) ∙ length_push _ _
 
 -- a line from its number i on
 abbrev pub line_rest : List ℕ → ℕ → List ℕ
@@ -36,9 +31,6 @@ line_end numbers i h = parts (10 ∷ []) [] (at_drop_all (λ ns. flat_map field 
 -- the step lines from position i on
 abbrev pub steps_rest : List ℕ → ℕ → List ℕ
 steps_rest steps i = steps_from i (drop i steps)
-
-pub listing_parts : (price : ℕ) (steps : List ℕ) → Parts (listing_text price steps) (price_line price) (steps_rest steps 0)
-listing_parts price steps = parts (price_line price) (steps_rest steps 0) refl
 
 pub steps_more : (steps : List ℕ) (i : ℕ) → i < length steps → Parts (steps_rest steps i) (step_line i (get_or steps i 0)) (steps_rest steps (i + 1))
 steps_more steps i h = parts (step_line i (get_or steps i 0)) (steps_rest steps (i + 1)) (at_drop_more (steps_from i) steps i 0 h)

@@ -15,7 +15,8 @@ impl ShortBuffer {
     }
 }
 
-// An answer of one line.
+// An answer of one line. A refusal is a number here: this crate stands below the enums of the refusals, which `number()` turns
+// to numbers when a reply is made.
 #[derive(Clone, Copy)]
 pub enum Reply {
     // Line `line` of the input is refused, for the reason `number`.

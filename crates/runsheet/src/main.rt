@@ -7,6 +7,7 @@ use anyhow::anyhow;
 use std::alloc::Global;
 use std::io::Read;
 use std::{env, fs, io};
+use week::Outcome;
 
 mod answer;
 
@@ -31,15 +32,10 @@ fn bytes_of<R: Read + Drop>(source: R, heap: Global) -> io::Result<Vec<u8>> {
 // Whether the book was accepted.
 fn run(rt: &HostRuntime, book: &[u8]) -> anyhow::Result<bool> {
     let mut out = [0; ANSWER_ROOM];
-    let Ok(outcome) = answer(book, &mut out) else {
-        return Err(anyhow!("the answer is too long"));
-    };
-    let len = outcome.len;
-    if len > ANSWER_ROOM {
-        return Err(anyhow!("the answer is too long"));
-    }
-    rt.write_all(&out[0..len])?;
-    Ok(outcome.accepted)
+    let outcome = answer(book, &mut out).map_err(|_| anyhow!("the answer is too long"))?;
+    let (Outcome::Listed(len) | Outcome::Refused(len)) = outcome;
+    rt.write_all(&out[..len])?;
+    Ok(matches!(outcome, Outcome::Listed(_)))
 }
 
 // The bytes of the book that the arguments name.
@@ -57,11 +53,9 @@ fn start(rt: &HostRuntime) -> anyhow::Result<bool> {
     if args.next().is_some() {
         return Err(anyhow!("more than one book; try --help"));
     }
-    if let Some(word) = &name {
-        if word.as_str() == "--help" {
-            println!(rt; "{HELP}")?;
-            return Ok(true);
-        }
+    if name.as_ref().is_some_and(|word| word.as_str() == "--help") {
+        println!(rt; "{HELP}")?;
+        return Ok(true);
     }
     let book = book_of(rt, name)?;
     run(rt, book.as_slice())

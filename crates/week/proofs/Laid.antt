@@ -1,5 +1,6 @@
 -- The steps of a loaded plan do what the book writes of their actions.
-use Rattle.std.proofs.Common.{◌≡◌, ℕ, zero, suc, ◌<◌, ◌≤◌, Bool, true, false, ◌⊎◌, List, [], ◌∷◌, ◌++◌, length, Some, None, Ok, Err, Option, Result, sym, refl, ap, ◌∙◌, subst, inl, inr, ⊎_elim, arith}
+use Rattle.std.proofs.Common.{◌≡◌, ℕ, zero, suc, ◌<◌, ◌≤◌, Bool, true, ◌⊎◌, List, [], ◌∷◌, length, Some, None, Ok, Err, Option, Result, sym, refl, ap, ◌∙◌, subst, inl, inr, is_ok, arith}
+use Rattle.std.proofs.lemmas.Bool.{false≢true}
 use mathlib.Core.Path.{fun_ext}
 use Rattle.std.specs.List.{slice_get}
 use Rattle.std.specs.Option.{option_flatten, option_map}
@@ -9,26 +10,23 @@ use Rattle.sets.specs.declared.bits.BitSet.{BitSet}
 use Rattle.sets.specs.declared.list.ArrayVec.{ArrayVec}
 use Rattle.task.specs.declared.actions.Action.{Action}
 use Rattle.task.specs.declared.tasks.Task.{Task}
-use Rattle.orders.specs.Facts.{Effects}
+use Rattle.orders.specs.Facts.{Effects, Good}
 use Rattle.orders.specs.Sheets.{Outline}
-use Rattle.sheet.specs.Verdicts.{FirstUnknown, LowestWanting, Passes, Refused as NotPassed, effects_of, has_fact, in_a_row}
+use Rattle.sheet.specs.Verdicts.{FirstUnknown, LowestWanting, Passes, Refused as NotPassed, effects, effects_of, has_fact, in_a_row}
 use Rattle.sheet.specs.Sheets.{actions, outline}
 use Rattle.sheet.specs.declared.sheet.Sheet.{Sheet}
 use Rattle.sheet.specs.declared.fault.SheetFault.{SheetFault}
-use Rattle.sheet.specs.declared.fault.SheetFault.TheVariants.{TooLong, WantingFact}
+use Rattle.sheet.specs.declared.fault.SheetFault.TheVariants.{TooLong, UnknownAction, WantingFact}
 use Rattle.lines.specs.Text.{reply_text}
-use Rattle.lines.specs.declared.answer.Reply.TheVariants.{Bad, Unlaid}
-use Rattle.lines.specs.declared.answer.ShortBuffer.{ShortBuffer}
+use Rattle.lines.specs.declared.answer.Reply.TheVariants.{Unlaid}
 use Rattle.records.specs.Lines.{Deed}
-use Rattle.book.specs.Faults.{line_of, number_of}
-use Rattle.book.specs.Loading.{Accepted, Refused}
+use Rattle.book.specs.Loading.{Accepted, Loads}
 use Rattle.book.specs.declared.fault.LoadFault.{LoadFault}
 use Rattle.book.specs.Tasks.{DescribeAll, Describes, Has, TaskOf}
 use Rattle.book.specs.Weeks.{Fits, Week}
 use Rattle.book.proofs.Described.{described_length}
 use Rattle.week.specs.Laying.{week_effects, week_outline, writes_fact}
-use Rattle.week.specs.Output.{Begun, Front, LaidAs, Listed, NotLaid, Text, WeekOf, Writes}
-use Rattle.week.specs.declared.answering.Outcome.{Outcome}
+use Rattle.week.specs.Output.{LaidAs, NoSheet, NotLaid, WeekOf}
 
 -- why a plan of these numbers cannot be laid
 abbrev LayFault : Task → List ℕ → SheetFault → Type 0
@@ -65,10 +63,16 @@ pub none_unknown : (w : Week) → Fits w → (task : Task) → TaskOf w task →
 none_unknown w fits task t number u =
     omega (arith, All-get_or _ w.steps u.at 0 u.within fits.step, u.there, u.lacking, described_length w.deeds (contents task.actions) t.actions)
 
--- what is written serves whoever wants no more of it
-pub writes_as : (P Q : Bool → List ℕ → Type 0) (F G : List ℕ → Type 0) → ((b : Bool) (text : List ℕ) → P b text → Q b text) → ((text : List ℕ) → F text → G text) → (before : List ℕ) (r : Result Outcome ShortBuffer) (after : List ℕ) → Writes P F before r after → Writes Q G before r after
-writes_as P Q F G more front before (Ok o) after (text, p, fits, len, wrote) = (text, more o.accepted text p, fits, len, wrote)
-writes_as P Q F G more front before (Err e) after (written, next, f, short, wrote) = (written, next, front (written ++ next) f, short, wrote)
+-- the week's plan is good as it is laid
+pub good_as_laid : (w : Week) (task : Task) (sheet : Sheet) → LaidAs w task sheet → Good (week_outline w) (week_effects w)
+good_as_laid w task sheet is =
+    subst (λ (e : Effects). Good (week_outline w) e) (same_effects w task is.of_week)
+    (subst (λ (l : List ℕ). Good (week_outline w) (effects_of task l)) is.steps (subst (λ (s : Outline). Good s (effects task sheet)) is.order is.passes.1))
+
+-- a book whose loading is no refusal is accepted
+pub accepted_where_ok : (book : List ℕ) (task : Task) (plan : ArrayVec ℕ 128) (r : Result (Unit {0}) LoadFault) → is_ok r ≡ true → Loads book r task plan → Accepted book task plan
+accepted_where_ok book task plan (Ok x) e loads = loads
+accepted_where_ok book task plan (Err f) e loads = absurd (false≢true e)
 
 module _ (book : List ℕ) (task : Task) (plan : ArrayVec ℕ 128) (accepted : Accepted book task plan) (numbers : List ℕ) (are : numbers ≡ contents plan) where
   steps : numbers ≡ accepted.1.0.steps
@@ -77,46 +81,34 @@ module _ (book : List ℕ) (task : Task) (plan : ArrayVec ℕ 128) (accepted : A
   as_week : (P : Outline → Effects → Type 0) → P (in_a_row (length numbers)) (effects_of task numbers) → P (week_outline accepted.1.0) (week_effects accepted.1.0)
   as_week P h = subst (λ e. P (week_outline accepted.1.0) e) (same_effects accepted.1.0 task accepted.1.3.0) (subst (λ xs. P (in_a_row (length xs)) (effects_of task xs)) steps h)
 
+  in_week : (Holds : Week → Type 0) → Holds accepted.1.0 → WeekOf book Holds
+  in_week Holds h = (accepted.0, (accepted.1.0, accepted.1.1, accepted.1.2, h))
+
   -- the sheet that is laid is that of the week's plan
-  pub laid_as : (sheet : Sheet) → actions sheet ≡ numbers → outline sheet ≡ in_a_row (length numbers) → Passes task numbers (in_a_row (length numbers)) → LaidAs accepted.1.0 task sheet
-  laid_as sheet same order passes = record {
+  pub laid : (sheet : Sheet) → actions sheet ≡ numbers → outline sheet ≡ in_a_row (length numbers) → Passes task numbers (in_a_row (length numbers)) → WeekOf book (λ w. LaidAs w task sheet)
+  laid sheet same order passes = in_week (λ w. LaidAs w task sheet) (record {
     of_week = accepted.1.3.0;
     steps = same ∙ steps;
     order = order ∙ ap (λ (l : List ℕ). in_a_row (length l)) steps;
     passes = subst (λ (s : Outline). Passes task (actions sheet) s) (sym order) (subst (λ (l : List ℕ). Passes task l (in_a_row (length numbers))) (sym same) passes);
-  }
-
-  in_week : (Holds : Week → Type 0) → Holds accepted.1.0 → WeekOf book Holds
-  in_week Holds h = (accepted.0, (accepted.1.0, accepted.1.1, accepted.1.2, h))
-
-  pub listed_text : (b : Bool) (text : List ℕ) → (b ≡ true) × Listed text accepted.1.0 → Text book b text
-  listed_text b text (yes', h) = rw yes' (in_week (Listed text) h)
-
-  pub listed_front : (text : List ℕ) → Listed text accepted.1.0 ⊎ Begun text accepted.1.0 → Front book text
-  listed_front text = ⊎_elim (λ h. inl (true, in_week (Listed text) h)) (λ h. inr (in_week (Begun text) h))
+  })
 
   lowest : (place fact : ℕ) (fault : SheetFault) → fault ≡ WantingFact place fact → LayFault task numbers fault → LowestWanting (in_a_row (length numbers)) (effects_of task numbers) place fact
-  lowest place fact fault e (inl (long, f)) = let z : ◌≡◌ {A = ℕ} 0 1 = cc in absurd (omega arith)
-  lowest place fact fault e (inr (short, inl (number, f, first))) = let z : ◌≡◌ {A = ℕ} 0 1 = cc in absurd (omega arith)
+  lowest place fact fault e (inl (long, f)) = cc
+  lowest place fact fault e (inr (short, inl (number, f, first))) = cc
   lowest place fact fault e (inr (short, inr (p, (q, f, known, low)))) =
       let a : p ≡ place = cc in
       let b : q ≡ fact = cc in
       let At : ℕ → ℕ → Type 0 = LowestWanting (in_a_row (length numbers)) (effects_of task numbers) in
       subst (λ y. At place y) b (subst (λ x. At x q) a low)
 
-  pub unlaid_text : (place fact : ℕ) (fault : SheetFault) → fault ≡ WantingFact place fact → LayFault task numbers fault → (b : Bool) (text : List ℕ) → (b ≡ false) × (text ≡ reply_text (Unlaid place fact)) → Text book b text
-  unlaid_text place fact fault e refused b text (no', t) =
-      rw no' (inr (in_week (NotLaid text) (place, (fact, as_week (λ s e. LowestWanting s e place fact) (lowest place fact fault e refused), t))))
+  pub unlaid : (place fact : ℕ) (fault : SheetFault) → fault ≡ WantingFact place fact → LayFault task numbers fault → NoSheet book (reply_text (Unlaid place fact))
+  unlaid place fact fault e refused =
+      inr (in_week (NotLaid (reply_text (Unlaid place fact))) (place, (fact, as_week (λ s e. LowestWanting s e place fact) (lowest place fact fault e refused), refl)))
 
   -- a loaded plan is refused for want of a fact, if at all
-  pub only_wanting : (fault : SheetFault) → ((place fact : ℕ) → fault ≡ WantingFact place fact → ⊥) → LayFault task numbers fault → ⊥
-  only_wanting fault none (inl (long, f)) = omega (arith, accepted.1.1.steps, ap length steps)
-  only_wanting fault none (inr (short, inl (number, f, first))) = none_unknown accepted.1.0 accepted.1.1 task accepted.1.3.0 number (subst (λ xs. FirstUnknown task xs number) steps first)
-  only_wanting fault none (inr (short, inr (p, (q, f, known, low)))) = none p q f
-
-pub bad_text : (book : List ℕ) (fault : LoadFault) (number line : ℕ) → Refused book fault → number ≡ number_of fault → line ≡ line_of fault → (b : Bool) (text : List ℕ) → (b ≡ false) × (text ≡ reply_text (Bad number line)) → Text book b text
-bad_text book fault number line refused n l b text (no', t) = rw no' (inl (fault, refused, t ∙ rw (n, l) refl))
-
--- a text that is written whole is its own front
-pub whole_front : (book text : List ℕ) (b : Bool) → Text book b text → Front book text
-whole_front book text b h = inl (b, h)
+  pub only_wanting : (fault : SheetFault) → (fault ≡ TooLong) ⊎ ((number : ℕ) × (fault ≡ UnknownAction number)) → LayFault task numbers fault → ⊥
+  only_wanting fault other (inl (long, f)) = omega (arith, accepted.1.1.steps, ap length steps)
+  only_wanting fault other (inr (short, inl (number, f, first))) = none_unknown accepted.1.0 accepted.1.1 task accepted.1.3.0 number (subst (λ xs. FirstUnknown task xs number) steps first)
+  only_wanting fault (inl long) (inr (short, inr (p, (q, f, known, low)))) = cc
+  only_wanting fault (inr (number, unknown)) (inr (short, inr (p, (q, f, known, low)))) = cc

@@ -1,6 +1,7 @@
 mod Behind
-mod Laid
+pub mod Laid
 mod Listing
-mod Prices
+pub mod Prices
 mod ReadEdits
 mod Working
+mod Writing

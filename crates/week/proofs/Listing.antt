@@ -6,22 +6,18 @@ use Rattle.book.specs.Weeks.{ChangeFits, Fits, Week, said}
 use Rattle.edits.specs.Applying.{saved}
 use Rattle.shaping.specs.declared.fault.EditFault.{EditFault}
 use Rattle.lines.proofs.Puts.{put_more}
-use Rattle.lines.specs.Text.{listing_text}
 use Rattle.lines.specs.Writing.{Put}
 use Rattle.lines.specs.declared.answer.ShortBuffer.{ShortBuffer}
 use Rattle.orders.specs.Changes.{Change}
-use Rattle.orders.specs.Facts.{Effects, Good}
-use Rattle.orders.specs.Sheets.{Outline}
 use Rattle.records.specs.Lines.{Line}
 use Rattle.records.specs.Lines.Line.{fact, act, step, edit}
-use Rattle.week.proofs.Laid.{same_effects}
-use Rattle.week.proofs.Prices.{week_prices}
+use Rattle.week.proofs.Laid.{good_as_laid}
+use Rattle.week.proofs.Prices.{week_listing, week_prices}
 use Rattle.week.proofs.Working.{carried_even, carried_good}
 use Rattle.week.specs.Editing.{CarriedOut, Outgrown, Replied, answer_text, book_prices, changes_in, replies, with_change}
-use Rattle.week.specs.Laying.{week_outline}
-use Rattle.week.specs.Output.{Begun, Edited, LaidAs, Listed, Writes}
+use Rattle.week.specs.Output.{Begun, Edited, LaidAs, Listed, Writes, task_text}
+use Rattle.week.specs.declared.answering.Outcome.TheVariants.{Listed as ListedAs}
 use Rattle.sheet.specs.Sheets.{actions}
-use Rattle.sheet.specs.Verdicts.{effects, effects_of}
 use Rattle.sheet.specs.declared.sheet.Sheet.{Sheet}
 use Rattle.task.specs.declared.tasks.Task.{Task}
 
@@ -49,9 +45,7 @@ module _ (w : Week) (task : Task) (laid : Sheet) (is : LaidAs w task laid) where
     laid = laid;
     laid_steps = is.steps;
     laid_outline = is.order;
-    good_as_laid =
-        subst (λ (e : Effects). Good (week_outline w) e) (same_effects w task is.of_week)
-        (subst (λ (l : List ℕ). Good (week_outline w) (effects_of task l)) is.steps (subst (λ (s : Outline). Good s (effects task laid)) is.order is.passes.1));
+    good_as_laid = good_as_laid w task laid is;
     carried = carried;
     good_at_last = (carried_good task laid last changes answers carried is.passes).1;
     balanced =
@@ -69,19 +63,22 @@ module _ (w : Week) (task : Task) (laid : Sheet) (is : LaidAs w task laid) where
     o.wrote,
   )
 
-  module _ (room : List ℕ) (at : ℕ) (last : Sheet) (out : List ℕ) (r : Replied task laid (changes_in (said w)) room at last out) (listing : List ℕ) (same : listing ≡ listing_text (sum_by (book_prices task) (actions last)) (actions last)) where
+  module _ (room : List ℕ) (at : ℕ) (last : Sheet) (out : List ℕ) (r : Replied task laid (changes_in (said w)) room at last out) where
+    abbrev listing : List ℕ
+    listing = task_text task (actions last)
+
     same_length : length out ≡ length room
     same_length = ap length r.wrote ∙ length-append (replies r.answers) _ ∙ omega (arith, r.fits, length-drop (length (replies r.answers)) room)
 
     listed : Listed (replies r.answers ++ listing) w
     listed =
         let carried = subst (λ (l : List Change). CarriedOut task laid l r.answers last) (week_changes w) r.carried in
-        (r.answers, (last, edited w.changes r.answers last carried, ap (λ (l : List ℕ). replies r.answers ++ l) (same ∙ ap (λ (p : ℕ → ℕ). listing_text (sum_by p (actions last)) (actions last)) (week_prices w task is.of_week))))
+        (r.answers, (last, edited w.changes r.answers last carried, ap (λ (l : List ℕ). replies r.answers ++ l) (week_listing w task is.of_week (actions last))))
 
     put : Put (replies r.answers) room 0 at out
     put = record { place = r.bytes_written ∙ omega arith; bytes = r.wrote ∙ ap (λ n. replies r.answers ++ drop n room) (sym r.bytes_written) }
 
-    pub listed_behind : (next : ℕ) (after : List ℕ) → Put listing out at next after → next ≤ length out → Writes (λ accepted text. (accepted ≡ true) × Listed text w) (λ text. Listed text w ⊎ Begun text w) room (Ok (record { accepted = true; len = next })) after
+    pub listed_behind : (next : ℕ) (after : List ℕ) → Put listing out at next after → next ≤ length out → Writes (λ accepted text. (accepted ≡ true) × Listed text w) (λ text. Listed text w ⊎ Begun text w) room (Ok (ListedAs next)) after
     listed_behind next after behind fits =
         let all = put_more (omega arith) put behind in
         let len : next ≡ length (replies r.answers ++ listing) = all.place ∙ omega arith in

@@ -1,5 +1,5 @@
 -- The edits of a book as they are carried out one after another.
-use Rattle.std.proofs.Common.{◌≡◌, ℕ, ◌+◌, ◌<◌, ◌≤◌, List, [], ◌∷◌, ◌++◌, length, drop, sum_by, Result, sym, refl, ap, ◌∙◌, subst, append_assoc, append-nil, arith, length-append}
+use Rattle.std.proofs.Common.{◌≡◌, ℕ, ◌+◌, ◌<◌, List, [], ◌∷◌, ◌++◌, length, drop, sum_by, Result, sym, refl, ap, ◌∙◌, subst, append_assoc, arith, length-append}
 use Rattle.std.specs.List.{AllByRecursion}
 use Rattle.std.proofs.lemmas.List.{flat_map_more}
 use Rattle.std.proofs.lemmas.List.Sums.{sum_by-cons}
@@ -14,7 +14,7 @@ use Rattle.records.specs.Lines.{Line, Proper}
 use Rattle.records.specs.Reading.{unread}
 use Rattle.records.specs.declared.reader.Reader.{Reader}
 use Rattle.records.specs.declared.record.Edit.{Edit}
-use Rattle.week.specs.Editing.{CarriedOut, NextEdit, Outgrown, Replied, answer_text, book_prices, changes_in, replies}
+use Rattle.week.specs.Editing.{CarriedOut, NextEdit, Outgrown, answer_text, book_prices, changes_in, replies}
 use Rattle.sheet.specs.Sheets.{actions, outline}
 use Rattle.sheet.specs.Verdicts.{Passes}
 use Rattle.sheet.specs.declared.sheet.Sheet.{Sheet}
@@ -90,12 +90,3 @@ module _ (task : Task) (first : Sheet) (room : List ℕ) (lines : List Line) whe
         short = omega (arith, w.put.place, ap length is, length-append (replies w.answers) (answer_text answer));
         wrote = w.put.bytes ∙ ap (λ n. replies w.answers ++ drop n room) (w.put.place ∙ omega arith);
       }
-
-  pub work_ends : (reader : Reader) (len : ℕ) (sheet : Sheet) (out : List ℕ) → len ≤ length room → (w : Working reader len sheet out) → changes_in w.more ≡ [] → Replied task first (changes_in lines) room len sheet out
-  work_ends reader len sheet out fits w none = record {
-    answers = w.answers;
-    carried = subst (λ (l : List Change). CarriedOut task first l w.answers sheet) (sym (w.split ∙ ap (λ (l : List Change). w.front ++ l) none ∙ append-nil w.front)) w.carried;
-    fits = omega (arith, w.put.place);
-    bytes_written = w.put.place ∙ omega arith;
-    wrote = w.put.bytes ∙ ap (λ n. replies w.answers ++ drop n room) (w.put.place ∙ omega arith);
-  }

@@ -1,15 +1,14 @@
 -- A book's edits, one after another, and what is said of each.
-use Rattle.std.specs.Prelude.{◌≡◌, ℕ, ◌+◌, ◌<◌, ◌≤◌, List, [], ◌∷◌, ◌++◌, length, Ok, Err, codes, Result}
+use Rattle.std.specs.Prelude.{◌≡◌, ℕ, ◌<◌, ◌≤◌, List, [], ◌∷◌, ◌++◌, length, Ok, Err, codes, Result}
 use Rattle.std.specs.List.{flat_map, AllByRecursion}
 use Rattle.book.specs.Weeks.{bytes}
 use Rattle.edits.specs.Applying.{Applies}
 use Rattle.shaping.specs.Faults.{number_of, values_of}
 use Rattle.shaping.specs.declared.fault.EditFault.{EditFault}
 use Rattle.lines.specs.Text.{line_text}
-use Rattle.lines.specs.Writing.{Put, Wrote}
+use Rattle.lines.specs.Writing.{Wrote}
 use Rattle.lines.specs.declared.answer.ShortBuffer.{ShortBuffer}
 use Rattle.orders.specs.Changes.{Change}
-use Rattle.orders.specs.Changes.Change.{swap, group, ungroup, loosen, replace}
 use Rattle.records.specs.Lines.{Line, Proper, ProperChange}
 use Rattle.records.specs.Lines.Line.{fact, act, start, goal, step, edit}
 use Rattle.records.specs.Reading.{unread}
@@ -19,11 +18,6 @@ use Rattle.records.specs.declared.record.Edit.{Edit}
 use Rattle.sheet.specs.declared.sheet.Sheet.{Sheet}
 use Rattle.task.specs.Prices.{priced}
 use Rattle.task.specs.declared.tasks.Task.{Task}
-
--- a text is written behind the first `at` bytes, up to the place that is answered; or there is no room for it, and nothing is written
-abbrev pub Appends : List ℕ → List ℕ → ℕ → Result ℕ ShortBuffer → List ℕ → Type 0
-Appends text before at (Ok next) after = Put text before at next after × (next ≤ length before)
-Appends text before at (Err e) after = (length before < at + length text) × (after ≡ before)
 
 -- the edits, with that of the line ahead of them if it is one
 abbrev pub with_change : Line → List Change → List Change
@@ -38,14 +32,6 @@ with_change (edit change) changes = change ∷ changes
 abbrev pub changes_in : List Line → List Change
 changes_in [] = []
 changes_in (l ∷ lines) = with_change l (changes_in lines)
-
--- the list that an edit offers
-abbrev pub list_in : Change → List ℕ
-list_in (swap k) = []
-list_in (group a b) = []
-list_in (ungroup a b) = []
-list_in (loosen i j) = []
-list_in (replace a b list) = list
 
 -- the first edit among the lines is read, and the reader stands behind it
 pub record NextEdit (lines : List Line) (e : Edit) (reader : Reader) : Type 0 where

@@ -19,9 +19,10 @@ use Rattle.lines.specs.Text.{listing_text, reply_text}
 use Rattle.lines.specs.Writing.{Wrote}
 use Rattle.lines.specs.declared.answer.Reply.TheVariants.{Bad, Unlaid}
 use Rattle.lines.specs.declared.answer.ShortBuffer.{ShortBuffer}
-use Rattle.week.specs.Editing.{CarriedOut, replies}
+use Rattle.week.specs.Editing.{CarriedOut, book_prices, replies}
 use Rattle.week.specs.Laying.{week_effects, week_outline}
 use Rattle.week.specs.declared.answering.Outcome.{Outcome}
+use Rattle.week.specs.declared.answering.Outcome.TheVariants.{Listed as ListedAs, Refused as RefusedAs}
 
 -- the price that the book writes for the action of that number
 abbrev pub book_price : Week → ℕ → ℕ
@@ -30,6 +31,10 @@ book_price w action = unwrap_or (option_map (λ d. d.price) (slice_get w.deeds a
 -- the listing of a sheet: its price by the book, and its steps
 abbrev pub sheet_text : Week → Sheet → List ℕ
 sheet_text w sheet = listing_text (sum_by (book_price w) (actions sheet)) (actions sheet)
+
+-- the listing of action numbers, priced by the task
+abbrev pub task_text : Task → List ℕ → List ℕ
+task_text task numbers = listing_text (sum_by (book_prices task) numbers) numbers
 
 -- the book is the text of a week of which this holds
 abbrev pub WeekOf : List ℕ → (Week → Type 0) → Type 0
@@ -73,16 +78,34 @@ NotLaid text w = (place : ℕ) × ((fact : ℕ) × LowestWanting (week_outline w
 abbrev pub BadBook : List ℕ → List ℕ → Type 0
 BadBook book text = (e : LoadFault) × Refused book e × (text ≡ reply_text (Bad (number_of e) (line_of e)))
 
+-- why there is no sheet of the book's plan
+abbrev pub NoSheet : List ℕ → List ℕ → Type 0
+NoSheet book text = BadBook book text ⊎ WeekOf book (NotLaid text)
+
 -- the text for a book: its week's plan, or why there is none
 abbrev pub Text : List ℕ → Bool → List ℕ → Type 0
 Text book true text = WeekOf book (Listed text)
-Text book false text = BadBook book text ⊎ WeekOf book (NotLaid text)
+Text book false text = NoSheet book text
 
 -- a front of that text: all of it, or the lines for the first of the edits
 abbrev pub Front : List ℕ → List ℕ → Type 0
 Front book text = ((accepted : Bool) × Text book accepted text) ⊎ WeekOf book (Begun text)
 
--- a text that is wanted stands at the front of the buffer, and the rest is as before; or the buffer is too short for it, and has those lines that fit
+-- whether the book is accepted, and its plan listed
+abbrev pub accepted : Outcome → Bool
+accepted (ListedAs len) = true
+accepted (RefusedAs len) = false
+
+-- how many bytes are written
+abbrev pub len_of : Outcome → ℕ
+len_of (ListedAs len) = len
+len_of (RefusedAs len) = len
+
+-- a text that is wanted stands at the front of the buffer, and the rest is as before
+abbrev pub Written : (Bool → List ℕ → Type 0) → List ℕ → Outcome → List ℕ → Type 0
+Written Wanted before o after = (text : List ℕ) × Wanted (accepted o) text × (length text ≤ length before) × (len_of o ≡ length text) × Wrote text before after
+
+-- a wanted text is written; or the buffer is too short for it, and has those lines that fit
 abbrev pub Writes : (Bool → List ℕ → Type 0) → (List ℕ → Type 0) → List ℕ → Result Outcome ShortBuffer → List ℕ → Type 0
-Writes Wanted Begins before (Ok o) after = (text : List ℕ) × Wanted o.accepted text × (length text ≤ length before) × (o.len ≡ length text) × Wrote text before after
+Writes Wanted Begins before (Ok o) after = Written Wanted before o after
 Writes Wanted Begins before (Err e) after = (written : List ℕ) × (next : List ℕ) × Begins (written ++ next) × (length before < length (written ++ next)) × Wrote written before after

@@ -4,9 +4,11 @@
 
 mod answering;
 mod editing;
+mod laying;
 mod reading;
 
 pub use answering::{Outcome, answer};
+pub use laying::{LaidWeek, lay_week, list_sheet};
 
 #[cfg(test)]
 mod tests;

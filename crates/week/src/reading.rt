@@ -21,10 +21,7 @@ pub fn next_edit<'a>(reader: &mut Reader<'a>) -> Option<Edit<'a>>
         (λ edit. NextEdit lines edit reader.new) }
     ensures falls { is_some result ≡ true → length (unread reader.new) < length (unread reader.old) }
 {
-    while let Ok(next) = reader.next() {
-        let Some(record) = next else {
-            return None;
-        };
+    while let Ok(Some(record)) = reader.next() {
         if let Record::Edit(edit) = record {
             return Some(edit);
         }
@@ -38,10 +35,7 @@ pub fn numbers_of(text: &[u8]) -> Plan
 {
     let mut numbers = ArrayVec::new(0);
     let mut entries = Entries::new(text);
-    while let Ok(next) = entries.next() {
-        let Some(number) = next else {
-            return numbers;
-        };
+    while let Ok(Some(number)) = entries.next() {
         let _ = numbers.push(number);
     }
     numbers

@@ -1,18 +1,7 @@
 use Rattle.std.proofs.Common.{arith, rules}
-use Rattle.lines.proofs.Puts.{put_more, ahead_none, ahead_more, ahead_all}
-use Rattle.lines.proofs.Texts.{listing_parts, steps_more, steps_end}
+use Rattle.lines.proofs.Puts.{put_more, ahead_more, ahead_all}
+use Rattle.lines.proofs.Texts.{steps_more, steps_end}
 use Rattle.lines.proofs.listing.Goals as goal
-
-pub put_line-next-requires : goal.put_line-next-requires
-put_line-next-requires c = omega (arith, listing_parts c.args.price c.args.steps.now, c.in-Some.ensures)
-
-pub loop-position-init : goal.loop-position-init
-loop-position-init c =
-    ahead_none _ _ _ (omega (arith, listing_parts c.args.price c.args.steps.now, c.in-Some.ensures))
-
-pub put_line-next-requires-in-loop-position : goal.put_line-next-requires-in-loop-position
-put_line-next-requires-in-loop-position c =
-    omega (arith, steps_more c.args.steps.now c.loop-position.position c.loop-position-test.true)
 
 pub loop-position-preserved : goal.loop-position-preserved
 loop-position-preserved c =

@@ -1,4 +1,4 @@
-use Rattle.std.proofs.Common.{refl, arith}
+use Rattle.std.proofs.Common.{refl, ◌∙◌, arith}
 use Rattle.lines.specs.Text.{line_text}
 use Rattle.lines.proofs.Texts.{line_parts, line_more, line_end}
 use Rattle.lines.proofs.Puts.{put_more, ahead_none, ahead_more, ahead_all}
@@ -10,19 +10,11 @@ put-next-requires c = omega (arith, line_parts c.args.word.now c.args.numbers.no
 pub loop-n-init : goal.loop-n-init
 loop-n-init c = ahead_none _ _ _ (omega (arith, line_parts c.args.word.now c.args.numbers.now))
 
-pub put-next-requires-in-loop-n : goal.put-next-requires-in-loop-n
-put-next-requires-in-loop-n c = omega (arith, line_more c.args.numbers.now c.loop-n.n-index c.loop-n-test.true)
-
-pub put_number-next-requires : goal.put_number-next-requires
-put_number-next-requires c = omega (arith, line_more c.args.numbers.now c.loop-n.n-index c.loop-n-test.true)
-
 pub loop-n-preserved : goal.loop-n-preserved
 loop-n-preserved c =
+    let digits = rw (c.as_bytes.ensures.value ∙ c.format.ensures.text) at c.put-next-in-loop-n-2.ensures in
     ahead_more (line_more c.args.numbers.now c.loop-n.n-index c.loop-n-test.true) c.loop-n.invariant
-    (put_more (omega arith) c.put-next-in-loop-n.ensures c.put_number-next.ensures)
-
-pub put-requires : goal.put-requires
-put-requires c = omega (arith, line_end c.args.numbers.now c.loop-n.n-index c.loop-n-test.false)
+    (put_more (omega arith) c.put-next-in-loop-n.ensures digits)
 
 pub returns : goal.returns
 unfolding line_text

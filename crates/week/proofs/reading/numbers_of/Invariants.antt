@@ -5,8 +5,8 @@ use Rattle.text.specs.Readers.{Reads, bytes_left}
 use Rattle.week.proofs.reading.numbers_of.Given as goal
 
 -- the numbers read so far, as long as there is room for them
-abbrev pub invariant-loop-next : goal.invariant-loop-next
-invariant-loop-next l = (done : List ℕ) × Reads (IsList l.text) done l.entries × (length done ≤ 128 → contents l.numbers ≡ done)
+abbrev pub invariant-loop-number : goal.invariant-loop-number
+invariant-loop-number l = (done : List ℕ) × Reads (IsList l.text) done l.entries × (length done ≤ 128 → contents l.numbers ≡ done)
 
-abbrev pub decreases-loop-next : goal.decreases-loop-next
-decreases-loop-next l = bytes_left l.entries
+abbrev pub decreases-loop-number : goal.decreases-loop-number
+decreases-loop-number l = bytes_left l.entries

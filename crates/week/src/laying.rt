@@ -1,0 +1,62 @@
+// A book's plan laid as a sheet, and the listing of a sheet.
+ghost use Rattle.std.specs.Prelude.{◌≡◌, MatchResult};
+ghost use Rattle.lines.specs.Text.{reply_text};
+ghost use Rattle.lines.specs.Writing.{Answers};
+ghost use Rattle.sets.specs.Contents.{contents};
+ghost use Rattle.sheet.specs.Sheets.{actions};
+ghost use Rattle.week.specs.Output.{LaidAs, NoSheet, WeekOf, task_text};
+
+use book::load::load;
+use lines::{Reply, ShortBuffer, listing};
+use sets::list::ArrayVec;
+use sheet::{Sheet, SheetFault, lay};
+use task::{BookTariff, Plan, Tariff, Task};
+
+// A week's plan as a sheet, and the task that its steps are of.
+#[derive(Drop)]
+pub struct LaidWeek {
+    pub task: Task,
+    pub sheet: Sheet,
+}
+
+// The sheet of the book's plan, or the line that says why there is none.
+pub fn lay_week(book: &[u8]) -> Result<LaidWeek, Reply>
+    ensures { MatchResult result
+        (λ week. WeekOf book.now (λ w. LaidAs w week.task week.sheet))
+        (λ why. NoSheet book.now (reply_text why)) }
+{
+    let mut task = Task::new();
+    let mut plan = ArrayVec::new(0);
+    load(book, &mut task, &mut plan).map_err(|fault| Reply::Bad {
+        number: fault.number(),
+        line: fault.line(),
+    })?;
+    match lay(&task, plan.as_slice()) {
+        Ok(sheet) => Ok(LaidWeek { task, sheet }),
+        Err(fault) => match fault {
+            SheetFault::WantingFact { place, fact } => Err(Reply::Unlaid { place, fact }),
+            // A loaded book's plan fits a sheet, and names only the book's actions.
+            SheetFault::TooLong | SheetFault::UnknownAction(_) => unreachable(),
+        },
+    }
+}
+
+// The sheet's action numbers, as a plan.
+fn plan_of(sheet: &Sheet) -> Plan
+    ensures { contents result ≡ actions sheet.now }
+{
+    let mut plan = ArrayVec::new(0);
+    for number in sheet.actions() {
+        plan.push(u32::from(*number)).unwrap();
+    }
+    plan
+}
+
+// Writes the listing of a sheet to the front of `out`, by the book's prices, and returns its length. A buffer that is too
+// short is refused, and stays as it was.
+pub fn list_sheet(task: &Task, sheet: &Sheet, out: &mut [u8]) -> Result<usize, ShortBuffer>
+    ensures { Answers (task_text task.now (actions sheet.now)) out.old result out.new }
+{
+    let price = sheet.price(&BookTariff { task });
+    listing(price, plan_of(sheet).as_slice(), out)
+}
