@@ -1,9 +1,8 @@
 // Sheets of 128 steps, and lists that would make more.
 use crate::small::rehearse_number;
 use crate::tasks::idle;
-use crate::telling::{tell_edits, tell_lay};
+use crate::telling::Rehearsal;
 use edits::Edit;
-use task::BookTariff;
 
 // Ties near both ends, the whole as a block, and swaps.
 const SHAPING: [Edit<'static>; 18] = [
@@ -68,18 +67,18 @@ const LONG_FOR_ONE: [Edit<'static>; 6] = [
 pub fn rehearse_full_sheets(rt: &HostRuntime) -> anyhow::Result<()> {
     println!(rt; "-- full sheets")?;
     let task = idle();
-    let book = BookTariff { task: &task };
-    tell_lay(rt, &task, &[u32::MAX; 129])?;
-    tell_lay(rt, &task, &[u32::MAX; 128])?;
-    if let Some(mut sheet) = tell_lay(rt, &task, &[0; 128])? {
-        rehearse_number(rt, &task, &sheet, 127)?;
-        rehearse_number(rt, &task, &sheet, 128)?;
-        tell_edits(rt, &mut sheet, &task, &book, &SHAPING)?;
-        tell_edits(rt, &mut sheet, &task, &book, &FILLING)?;
-        tell_edits(rt, &mut sheet, &task, &book, &LONG)?;
+    let book = Rehearsal::by_book(rt, &task);
+    book.lay(&[u32::MAX; 129])?;
+    book.lay(&[u32::MAX; 128])?;
+    if let Some(mut sheet) = book.lay(&[0; 128])? {
+        rehearse_number(&book, &sheet, 127)?;
+        rehearse_number(&book, &sheet, 128)?;
+        book.edits(&mut sheet, &SHAPING)?;
+        book.edits(&mut sheet, &FILLING)?;
+        book.edits(&mut sheet, &LONG)?;
     }
-    if let Some(mut sheet) = tell_lay(rt, &task, &[3])? {
-        tell_edits(rt, &mut sheet, &task, &book, &LONG_FOR_ONE)?;
+    if let Some(mut sheet) = book.lay(&[3])? {
+        book.edits(&mut sheet, &LONG_FOR_ONE)?;
     }
     Ok(())
 }

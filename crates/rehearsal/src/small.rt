@@ -1,17 +1,16 @@
 // Small sheets: numbers far out of range, no steps, odd lists, and blocks in blocks.
 use crate::tasks::idle;
-use crate::telling::{tell_check, tell_edit, tell_edits, tell_lay, tell_sheet};
+use crate::telling::Rehearsal;
 use edits::Edit;
 use sheet::Sheet;
-use task::{BookTariff, Task};
+use task::BookTariff;
 
 // Numbers that are no position of four steps, and the last position.
 const NUMBERS: [usize; 5] = [usize::MAX, u32::MAX as usize, 128, 4, 3];
 
 // The number in each place of each edit, each time on the sheet as it was.
 pub fn rehearse_number(
-    rt: &HostRuntime,
-    task: &Task,
+    book: &Rehearsal<'_, BookTariff<'_>>,
     sheet: &Sheet,
     number: usize,
 ) -> anyhow::Result<()> {
@@ -32,7 +31,7 @@ pub fn rehearse_number(
     ];
     for edit in edits {
         let mut copy = *sheet;
-        tell_edit(rt, &mut copy, task, &BookTariff { task }, edit)?;
+        book.edit(&mut copy, edit)?;
     }
     Ok(())
 }
@@ -40,11 +39,12 @@ pub fn rehearse_number(
 pub fn rehearse_far_numbers(rt: &HostRuntime) -> anyhow::Result<()> {
     println!(rt; "-- numbers far out of range")?;
     let task = idle();
-    let Some(sheet) = tell_lay(rt, &task, &[0, 0, 0, 0])? else {
+    let book = Rehearsal::by_book(rt, &task);
+    let Some(sheet) = book.lay(&[0, 0, 0, 0])? else {
         return Ok(());
     };
     for number in NUMBERS {
-        rehearse_number(rt, &task, &sheet, number)?;
+        rehearse_number(&book, &sheet, number)?;
     }
     Ok(())
 }
@@ -52,10 +52,11 @@ pub fn rehearse_far_numbers(rt: &HostRuntime) -> anyhow::Result<()> {
 pub fn rehearse_empty_sheet(rt: &HostRuntime) -> anyhow::Result<()> {
     println!(rt; "-- no steps")?;
     let task = idle();
-    let Some(mut sheet) = tell_lay(rt, &task, &[])? else {
+    let book = Rehearsal::by_book(rt, &task);
+    let Some(mut sheet) = book.lay(&[])? else {
         return Ok(());
     };
-    tell_check(rt, &sheet, &task)?;
+    book.check(&sheet)?;
     let edits = [
         Edit::Swap(0),
         Edit::Swap(1),
@@ -66,13 +67,14 @@ pub fn rehearse_empty_sheet(rt: &HostRuntime) -> anyhow::Result<()> {
         Edit::Replace(0, 0, &[4]),
         Edit::Replace(0, 0, &[]),
     ];
-    tell_edits(rt, &mut sheet, &task, &BookTariff { task: &task }, &edits)
+    book.edits(&mut sheet, &edits)
 }
 
 pub fn rehearse_lists(rt: &HostRuntime) -> anyhow::Result<()> {
     println!(rt; "-- lists")?;
     let task = idle();
-    let Some(mut sheet) = tell_lay(rt, &task, &[0])? else {
+    let book = Rehearsal::by_book(rt, &task);
+    let Some(mut sheet) = book.lay(&[0])? else {
         return Ok(());
     };
     let edits = [
@@ -91,8 +93,8 @@ pub fn rehearse_lists(rt: &HostRuntime) -> anyhow::Result<()> {
         Edit::Replace(0, 2, &[4, 4, 4]),
         Edit::Replace(0, 2, &[4]),
     ];
-    tell_edits(rt, &mut sheet, &task, &BookTariff { task: &task }, &edits)?;
-    tell_sheet(rt, &sheet)
+    book.edits(&mut sheet, &edits)?;
+    book.show(&sheet)
 }
 
 const NESTING: [Edit<'static>; 8] = [
@@ -123,15 +125,11 @@ const CHANGES: [Edit<'static>; 10] = [
 pub fn rehearse_nested_blocks(rt: &HostRuntime) -> anyhow::Result<()> {
     println!(rt; "-- blocks in blocks")?;
     let task = idle();
-    let Some(mut sheet) = tell_lay(rt, &task, &[0; 6])? else {
+    let book = Rehearsal::by_book(rt, &task);
+    let Some(mut sheet) = book.lay(&[0; 6])? else {
         return Ok(());
     };
-    let book = BookTariff { task: &task };
-    tell_edits(rt, &mut sheet, &task, &book, &NESTING)?;
-    tell_sheet(rt, &sheet)?;
-    for edit in CHANGES {
-        tell_edit(rt, &mut sheet, &task, &book, edit)?;
-        tell_sheet(rt, &sheet)?;
-    }
-    Ok(())
+    book.edits(&mut sheet, &NESTING)?;
+    book.show(&sheet)?;
+    book.edits_and_sheets(&mut sheet, &CHANGES)
 }

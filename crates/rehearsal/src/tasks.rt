@@ -39,11 +39,11 @@ pub fn set_of(facts: &[usize]) -> Facts {
 fn with_actions(rows: &[Row]) -> Task {
     let mut task = Task::new();
     for _ in 0..WEEK_FACTS {
-        task.add_fact();
+        let _ = task.add_fact();
     }
     for Row(price, needs, adds, deletes) in rows {
         if let Some(action) = Action::new(set_of(needs), set_of(adds), set_of(deletes), *price) {
-            task.add_action(action);
+            let _ = task.add_action(action);
         }
     }
     task

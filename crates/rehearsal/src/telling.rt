@@ -1,9 +1,8 @@
-// Lines that say what became of an edit, and what a sheet is.
-use edits::{Edit, apply};
-use sets::list::ArrayVec;
-use sheet::{Sheet, check, lay, row};
-use std::{fmt, io};
-use task::{Tariff, Task};
+// What is asked for, and lines that say what became of it.
+use edits::{Edit, EditFault, apply};
+use sheet::{Sheet, check, lay};
+use std::fmt;
+use task::{BookTariff, Tariff, Task};
 
 // A longer list has one number throughout here.
 const LONGEST: usize = 6;
@@ -47,120 +46,145 @@ impl fmt::Display for Words<'_> {
     }
 }
 
-fn same_rows(one: &Sheet, other: &Sheet) -> bool {
-    for i in 0..128 {
-        if row(&one.behind, i) != row(&other.behind, i)
-            || row(&one.blocks, i) != row(&other.blocks, i)
-        {
-            return false;
+// A refusal by its number and what it names.
+#[derive(Clone, Copy)]
+struct Refusal(EditFault);
+
+impl fmt::Display for Refusal {
+    fn fmt<W: fmt::Write>(&self, f: &mut fmt::Formatter<W>) -> fmt::Result {
+        let number = self.0.number();
+        write!(f, "no {number}")?;
+        for value in self.0.values().as_slice() {
+            write!(f, " {value}")?;
         }
+        Ok(())
     }
-    true
 }
 
-// Whether the sheets have the same steps, ties and blocks.
-fn are_same(one: &Sheet, other: &Sheet) -> bool {
-    one.actions() == other.actions() && same_rows(one, other)
-}
+// The blocks of the sheet that begin at one position.
+#[derive(Clone, Copy)]
+struct BlocksAt<'a>(&'a Sheet, usize);
 
-// The rest of a line on a refusal.
-fn tell_refusal(rt: &HostRuntime, number: u32, values: &ArrayVec<usize, 2>) -> anyhow::Result<()> {
-    print!(rt; "no {number}")?;
-    for value in values.as_slice() {
-        print!(rt; " {value}")?;
-    }
-    Ok(())
-}
-
-// Asks for the edit, and tells its end.
-pub fn tell_edit<T: Tariff>(
-    rt: &HostRuntime,
-    sheet: &mut Sheet,
-    task: &Task,
-    tariff: &T,
-    edit: Edit<'_>,
-) -> anyhow::Result<()> {
-    let before = *sheet;
-    let words = Words(edit);
-    print!(rt; "{words}: ")?;
-    match apply(sheet, task, tariff, edit) {
-        Ok(saving) => println!(rt; "done {saving}")?,
-        Err(fault) => {
-            tell_refusal(rt, fault.number(), &fault.values())?;
-            let end = if are_same(&before, sheet) {
-                "as it was"
-            } else {
-                "changed"
-            };
-            println!(rt; ", {end}")?;
+impl fmt::Display for BlocksAt<'_> {
+    fn fmt<W: fmt::Write>(&self, f: &mut fmt::Formatter<W>) -> fmt::Result {
+        let BlocksAt(sheet, a) = *self;
+        for b in (0..sheet.steps()).filter(|b| sheet.is_block(a, *b)) {
+            write!(f, " {a}-{b}")?;
         }
+        Ok(())
     }
-    Ok(())
 }
 
-pub fn tell_edits<T: Tariff>(
-    rt: &HostRuntime,
-    sheet: &mut Sheet,
-    task: &Task,
-    tariff: &T,
-    edits: &[Edit<'_>],
-) -> anyhow::Result<()> {
-    for edit in edits {
-        tell_edit(rt, sheet, task, tariff, *edit)?;
-    }
-    Ok(())
-}
+// The actions of the sheet's steps.
+#[derive(Clone, Copy)]
+struct Actions<'a>(&'a Sheet);
 
-// Lays the plan, and tells whether it was refused.
-pub fn tell_lay(rt: &HostRuntime, task: &Task, plan: &[u32]) -> anyhow::Result<Option<Sheet>> {
-    let entries = Entries(plan);
-    print!(rt; "lay{entries}: ")?;
-    match lay(task, plan) {
-        Ok(sheet) => {
-            let steps = sheet.steps();
-            println!(rt; "steps {steps}")?;
-            Ok(Some(sheet))
+impl fmt::Display for Actions<'_> {
+    fn fmt<W: fmt::Write>(&self, f: &mut fmt::Formatter<W>) -> fmt::Result {
+        for number in self.0.actions() {
+            write!(f, " {number}")?;
         }
-        Err(fault) => {
-            tell_refusal(rt, fault.number(), &fault.values())?;
-            println!(rt; "")?;
-            Ok(None)
-        }
+        Ok(())
     }
 }
 
-pub fn tell_check(rt: &HostRuntime, sheet: &Sheet, task: &Task) -> anyhow::Result<()> {
-    print!(rt; "check: ")?;
-    match check(task, sheet) {
-        Ok(()) => println!(rt; "good")?,
-        Err(fault) => {
-            tell_refusal(rt, fault.number(), &fault.values())?;
-            println!(rt; "")?;
-        }
-    }
-    Ok(())
+// A task and the tariff under which edits are asked for.
+#[derive(Clone, Copy)]
+pub struct Rehearsal<'a, T: Tariff> {
+    rt: &'a HostRuntime,
+    task: &'a Task,
+    tariff: T,
 }
 
-// The blocks that begin at `a`.
-fn tell_blocks_at(rt: &HostRuntime, sheet: &Sheet, a: usize) -> io::Result<()> {
-    for b in 0..128 {
-        if sheet.is_block(a, b) {
-            print!(rt; " {a}-{b}")?;
-        }
+impl<'a> Rehearsal<'a, BookTariff<'a>> {
+    pub fn by_book(rt: &'a HostRuntime, task: &'a Task) -> Self {
+        Rehearsal::new(rt, task, BookTariff { task })
     }
-    Ok(())
 }
 
-// The steps' actions and the blocks.
-pub fn tell_sheet(rt: &HostRuntime, sheet: &Sheet) -> anyhow::Result<()> {
-    print!(rt; "actions")?;
-    for number in sheet.actions() {
-        print!(rt; " {number}")?;
+impl<'a, T: Tariff> Rehearsal<'a, T> {
+    pub fn new(rt: &'a HostRuntime, task: &'a Task, tariff: T) -> Self {
+        Rehearsal { rt, task, tariff }
     }
-    print!(rt; "; blocks")?;
-    for a in 0..128 {
-        tell_blocks_at(rt, sheet, a)?;
+
+    // Asks for the edit, and tells its end.
+    pub fn edit(&self, sheet: &mut Sheet, edit: Edit<'_>) -> anyhow::Result<()> {
+        let rt = self.rt;
+        let before = *sheet;
+        let words = Words(edit);
+        print!(rt; "{words}: ")?;
+        match apply(sheet, self.task, &self.tariff, edit) {
+            Ok(saving) => println!(rt; "done {saving}")?,
+            Err(fault) => {
+                let refusal = Refusal(fault);
+                let end = if *sheet == before {
+                    "as it was"
+                } else {
+                    "changed"
+                };
+                println!(rt; "{refusal}, {end}")?;
+            }
+        }
+        Ok(())
     }
-    println!(rt; "")?;
-    Ok(())
+
+    pub fn edits(&self, sheet: &mut Sheet, edits: &[Edit<'_>]) -> anyhow::Result<()> {
+        for edit in edits {
+            self.edit(sheet, *edit)?;
+        }
+        Ok(())
+    }
+
+    // The same, telling the sheet behind each of them.
+    pub fn edits_and_sheets(&self, sheet: &mut Sheet, edits: &[Edit<'_>]) -> anyhow::Result<()> {
+        for edit in edits {
+            self.edit(sheet, *edit)?;
+            self.show(sheet)?;
+        }
+        Ok(())
+    }
+
+    // Lays the plan, and tells whether it was refused.
+    pub fn lay(&self, plan: &[u32]) -> anyhow::Result<Option<Sheet>> {
+        let rt = self.rt;
+        let entries = Entries(plan);
+        print!(rt; "lay{entries}: ")?;
+        let answer = lay(self.task, plan);
+        match answer {
+            Ok(sheet) => {
+                let steps = sheet.steps();
+                println!(rt; "steps {steps}")?;
+            }
+            Err(fault) => {
+                let refusal = Refusal(fault.into());
+                println!(rt; "{refusal}")?;
+            }
+        }
+        Ok(answer.ok())
+    }
+
+    pub fn check(&self, sheet: &Sheet) -> anyhow::Result<()> {
+        let rt = self.rt;
+        match check(self.task, sheet) {
+            Ok(()) => println!(rt; "check: good")?,
+            Err(fault) => {
+                let refusal = Refusal(fault.into());
+                println!(rt; "check: {refusal}")?;
+            }
+        }
+        Ok(())
+    }
+
+    // Tells the steps' actions and the blocks.
+    pub fn show(&self, sheet: &Sheet) -> anyhow::Result<()> {
+        let rt = self.rt;
+        let actions = Actions(sheet);
+        print!(rt; "actions{actions}; blocks")?;
+        for a in 0..sheet.steps() {
+            let blocks = BlocksAt(sheet, a);
+            print!(rt; "{blocks}")?;
+        }
+        println!(rt; "")?;
+        Ok(())
+    }
 }

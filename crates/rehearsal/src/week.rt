@@ -1,6 +1,6 @@
 // The small week, and what other tasks say of its sheet.
 use crate::tasks::{other_goal, set_of, short_week, strict_week, week};
-use crate::telling::{tell_check, tell_edit, tell_edits, tell_lay, tell_sheet};
+use crate::telling::Rehearsal;
 use edits::{Edit, apply};
 use sheet::{Sheet, lay};
 use task::{BookTariff, Task, TouchTariff};
@@ -10,8 +10,7 @@ const PLAN: [u32; 6] = [0, 1, 2, 3, 4, 5];
 // The two captures become blocks that may come in either order.
 const PARTED: [Edit<'static>; 3] = [Edit::Group(0, 2), Edit::Group(3, 5), Edit::Loosen(2, 3)];
 
-fn rehearse_edits(rt: &HostRuntime, task: &Task, sheet: &mut Sheet) -> anyhow::Result<()> {
-    let book = BookTariff { task };
+fn rehearse_edits(book: &Rehearsal<'_, BookTariff<'_>>, sheet: &mut Sheet) -> anyhow::Result<()> {
     let edits = [
         Edit::Replace(0, 2, &[0, 6]),
         Edit::Group(1, 3),
@@ -21,10 +20,9 @@ fn rehearse_edits(rt: &HostRuntime, task: &Task, sheet: &mut Sheet) -> anyhow::R
         Edit::Loosen(0, 1),
         Edit::Replace(0, 2, &[1, 1]),
     ];
-    tell_edit(rt, sheet, task, &book, Edit::Loosen(2, 3))?;
-    tell_edit(rt, sheet, task, &book, Edit::Loosen(0, 2))?;
-    tell_edits(rt, sheet, task, &book, &PARTED)?;
-    tell_edits(rt, sheet, task, &book, &edits)
+    book.edits(sheet, &[Edit::Loosen(2, 3), Edit::Loosen(0, 2)])?;
+    book.edits(sheet, &PARTED)?;
+    book.edits(sheet, &edits)
 }
 
 fn rehearse_touches(rt: &HostRuntime, task: &Task, sheet: &mut Sheet) -> anyhow::Result<()> {
@@ -38,44 +36,35 @@ fn rehearse_touches(rt: &HostRuntime, task: &Task, sheet: &mut Sheet) -> anyhow:
         Edit::Replace(0, 2, &[0, 6, 2]),
         Edit::Replace(0, 2, &[0, 6]),
     ];
-    tell_edits(rt, sheet, task, &touch, &edits)
+    Rehearsal::new(rt, task, touch).edits(sheet, &edits)
 }
 
-fn rehearse_swaps(rt: &HostRuntime, task: &Task, sheet: &mut Sheet) -> anyhow::Result<()> {
+pub fn rehearse_week(rt: &HostRuntime) -> anyhow::Result<()> {
+    println!(rt; "-- the small week")?;
+    let task = week();
+    let book = Rehearsal::by_book(rt, &task);
+    book.lay(&[3, 0])?;
+    book.lay(&[0, 1, 2])?;
+    book.lay(&[0, 7, 8])?;
+    let Some(mut sheet) = book.lay(&PLAN)? else {
+        return Ok(());
+    };
+    rehearse_edits(&book, &mut sheet)?;
+    rehearse_touches(rt, &task, &mut sheet)?;
     println!(rt; "-- priced by the book again")?;
     let edits = [
         Edit::Swap(3),
         Edit::Swap(3),
         Edit::Replace(0, 2, &[0, 6, 2]),
     ];
-    for edit in edits {
-        tell_edit(rt, sheet, task, &BookTariff { task }, edit)?;
-        tell_sheet(rt, sheet)?;
-    }
-    tell_check(rt, sheet, task)
-}
-
-pub fn rehearse_week(rt: &HostRuntime) -> anyhow::Result<()> {
-    println!(rt; "-- the small week")?;
-    let task = week();
-    tell_lay(rt, &task, &[3, 0])?;
-    tell_lay(rt, &task, &[0, 1, 2])?;
-    tell_lay(rt, &task, &[0, 7, 8])?;
-    let Some(mut sheet) = tell_lay(rt, &task, &PLAN)? else {
-        return Ok(());
-    };
-    rehearse_edits(rt, &task, &mut sheet)?;
-    rehearse_touches(rt, &task, &mut sheet)?;
-    rehearse_swaps(rt, &task, &mut sheet)
+    book.edits_and_sheets(&mut sheet, &edits)?;
+    book.check(&sheet)
 }
 
 // The week's sheet with its two blocks.
 fn parted_week() -> Option<Sheet> {
     let task = week();
-    let mut sheet = match lay(&task, &PLAN) {
-        Ok(sheet) => sheet,
-        Err(_) => return None,
-    };
+    let mut sheet = lay(&task, &PLAN).ok()?;
     for edit in &PARTED {
         let _ = apply(&mut sheet, &task, &BookTariff { task: &task }, *edit);
     }
@@ -100,8 +89,9 @@ fn rehearse_under(rt: &HostRuntime, name: &str, task: &Task) -> anyhow::Result<(
     let Some(mut sheet) = parted_week() else {
         return Ok(());
     };
-    tell_check(rt, &sheet, task)?;
-    tell_edits(rt, &mut sheet, task, &BookTariff { task }, &ASKED)
+    let book = Rehearsal::by_book(rt, task);
+    book.check(&sheet)?;
+    book.edits(&mut sheet, &ASKED)
 }
 
 pub fn rehearse_other_tasks(rt: &HostRuntime) -> anyhow::Result<()> {

@@ -11,20 +11,18 @@ fn trial(rt: &HostRuntime, name: &str) -> anyhow::Result<()> {
     let text = fs::read(rt, name)?;
     let mut task = Task::new();
     let mut plan = ArrayVec::new(0);
-    if let Err(fault) = load(text.as_slice(), &mut task, &mut plan) {
+    let loaded = load(text.as_slice(), &mut task, &mut plan);
+    let facts = task.facts;
+    let actions = task.actions.len();
+    let steps = plan.len();
+    if let Err(fault) = loaded {
         let number = fault.number();
         let line = fault.line();
-        let facts = task.facts;
-        let actions = task.actions.len();
-        let steps = plan.len();
         println!(rt;
             "{name}: {number} at line {line}, leaving {facts} facts, {actions} actions, {steps} steps"
         )?;
         return Ok(());
     }
-    let facts = task.facts;
-    let actions = task.actions.len();
-    let steps = plan.len();
     match price_of_list(&BookTariff { task: &task }, plan.as_slice()) {
         Ok(price) => println!(rt;
             "{name}: {facts} facts, {actions} actions, {steps} steps for {price}"
@@ -35,9 +33,7 @@ fn trial(rt: &HostRuntime, name: &str) -> anyhow::Result<()> {
 }
 
 fn main(rt: HostRuntime) -> anyhow::Result<()> {
-    let mut names = env::args(&rt)?;
-    let _program = names.next();
-    for name in names {
+    for name in env::args(&rt)?.skip(1) {
         trial(&rt, name.as_str())?;
     }
     Ok(())

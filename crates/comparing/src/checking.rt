@@ -1,0 +1,69 @@
+// Sheets of many shapes, each compared with the list of its running orders.
+ghost use Rattle.std.specs.Prelude.{◌≡◌, ◌<◌, IfErr, IfOk};
+
+use crate::differing::{Difference, Differs};
+use crate::enumeration::Orders;
+use crate::model::Model;
+use crate::random::Random;
+use crate::shapes::{Shape, Shapes};
+use crate::tasks::PlainTask;
+use shaping::{group, loosen};
+use sheet::{Sheet, check, lay};
+
+const NUMBERS: [u32; 5] = [0, 1, 2, 3, 4];
+
+// A laid plan, with blocks made and ties loosened at random under the task without needs; step i has action i.
+fn shaped(random: &mut Random, task: &PlainTask, steps: usize) -> Result<Sheet, Differs> {
+    let task = task.without_needs().task();
+    let plan = NUMBERS.get(..steps).ok_or(Differs)?;
+    let mut sheet = lay(&task, plan).map_err(|_| Differs)?;
+    for _ in 0..random.below(24) {
+        let a = random.below(steps);
+        let b = random.below(steps);
+        if random.once_in(6) {
+            let _ = group(&mut sheet, a, b);
+        } else {
+            let _ = loosen(&mut sheet, &task, a, b);
+        }
+    }
+    Ok(sheet)
+}
+
+// Compares one sheet; refused where the check says something else than the list of running orders.
+fn compared<P: Fn(&mut Random) -> u32>(random: &mut Random, price: &P) -> Result<Shape, Differs>
+    requires { P.IsAlwaysCallable price.now }
+{
+    let steps = random.below(6);
+    let task = PlainTask::any(random, steps, price);
+    let sheet = shaped(random, &task, steps)?;
+    let model = Model::read(&sheet);
+    let orders = Orders::of(&model);
+    let verdict = orders.verdict(&task);
+    if check(&task.task(), &sheet) != verdict {
+        return Err(Differs);
+    }
+    Ok(Shape {
+        is_loose: orders.all.len() > 1,
+        is_grouped: !model.blocks.is_empty(),
+        is_wanting: verdict.is_err(),
+    })
+}
+
+// Compares so many sheets, each under a task of its own; `price` draws the price of an action. Either all of them agree,
+// or one is named.
+pub fn compare_checks<P: Fn(&mut Random) -> u32>(
+    random: &mut Random,
+    sheets: u32,
+    price: P,
+) -> Result<Shapes, Difference>
+    requires { P.IsAlwaysCallable price }
+    ensures all { IfOk result (λ shapes. shapes.sheets ≡ sheets) }
+    ensures one { IfErr result (λ difference. difference.sheet < sheets) }
+{
+    let mut shapes = Shapes::NONE;
+    for sheet in 0..sheets {
+        let shape = compared(random, &price).map_err(|_| Difference { sheet })?;
+        shapes.add(shape);
+    }
+    Ok(shapes)
+}

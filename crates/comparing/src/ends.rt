@@ -1,0 +1,102 @@
+// How often each kind of edit ended in each way.
+ghost use Rattle.std.specs.Prelude.{◌≡◌, ◌+◌, ◌^◌, ◌<◌, nat_le};
+ghost use Rattle.std.specs.List.{list_all};
+
+use edits::Edit;
+
+#[derive(Clone, Copy, Debug, PartialEq, Eq)]
+pub enum Kind {
+    Swap,
+    Group,
+    Ungroup,
+    Loosen,
+    Replace,
+}
+
+impl From<Edit<'_>> for Kind {
+    fn from(edit: Edit<'_>) -> Self {
+        match edit {
+            Edit::Swap(_) => Kind::Swap,
+            Edit::Group(_, _) => Kind::Group,
+            Edit::Ungroup(_, _) => Kind::Ungroup,
+            Edit::Loosen(_, _) => Kind::Loosen,
+            Edit::Replace(_, _, _) => Kind::Replace,
+        }
+    }
+}
+
+// The kind of an edit, and the number of its refusal; None where it was carried out.
+#[derive(Clone, Copy, Debug, PartialEq, Eq)]
+pub struct End(pub Kind, pub Option<u32>);
+
+// Every way in which an edit of a small sheet can end.
+const ENDS: [End; 24] = [
+    End(Kind::Swap, None),
+    End(Kind::Swap, Some(1)),
+    End(Kind::Swap, Some(6)),
+    End(Kind::Group, None),
+    End(Kind::Group, Some(1)),
+    End(Kind::Group, Some(5)),
+    End(Kind::Ungroup, None),
+    End(Kind::Ungroup, Some(1)),
+    End(Kind::Ungroup, Some(2)),
+    End(Kind::Ungroup, Some(3)),
+    End(Kind::Ungroup, Some(5)),
+    End(Kind::Loosen, None),
+    End(Kind::Loosen, Some(1)),
+    End(Kind::Loosen, Some(2)),
+    End(Kind::Loosen, Some(3)),
+    End(Kind::Loosen, Some(6)),
+    End(Kind::Loosen, Some(7)),
+    End(Kind::Replace, None),
+    End(Kind::Replace, Some(1)),
+    End(Kind::Replace, Some(2)),
+    End(Kind::Replace, Some(3)),
+    End(Kind::Replace, Some(5)),
+    End(Kind::Replace, Some(8)),
+    End(Kind::Replace, Some(9)),
+];
+
+// How many edits ended so.
+#[derive(Clone, Copy, Debug, PartialEq, Eq)]
+pub struct Count {
+    pub end: End,
+    pub times: usize,
+}
+
+// How many sheets were edited, and how their edits ended.
+#[derive(Clone, Copy, Debug, PartialEq, Eq)]
+pub struct Ends {
+    pub sheets: u32,
+    pub counts: [Count; 24],
+}
+
+impl Ends {
+    pub(crate) fn none() -> Self
+        ensures { result.sheets ≡ 0 }
+    {
+        Ends {
+            sheets: 0,
+            counts: ENDS.map(|end| Count { end, times: 0 }),
+        }
+    }
+
+    // Counts the edits of one sheet more.
+    pub(crate) fn add(&mut self, ends: &[End])
+        requires { self.old.sheets + 1 < 2 ^ 32 }
+        ensures { self.new.sheets ≡ self.old.sheets + 1 }
+    {
+        for count in self.counts.iter_mut() {
+            let times = ends.iter().filter(|end| **end == count.end).count();
+            count.times = count.times.saturating_add(times);
+        }
+        self.sheets += 1;
+    }
+
+    // Whether each kind of edit ended in each of its ways that often.
+    pub fn have_all(&self, often: usize) -> bool
+        ensures { result ≡ list_all (λ c. nat_le often c.times) self.now.counts }
+    {
+        self.counts.iter().all(|count| often <= count.times)
+    }
+}

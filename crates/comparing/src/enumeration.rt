@@ -1,0 +1,99 @@
+// All running orders of a sheet, by their definition: every order of the positions is tried.
+use crate::lists::{MOST_STEPS, Run, listed};
+use crate::model::Model;
+use sets::list::ArrayVec;
+
+// There are 720 orders of six positions.
+const MOST_ORDERS: usize = 720;
+
+// The positions, first to last.
+#[derive(Clone, Copy)]
+pub(crate) struct Order {
+    positions: ArrayVec<usize, MOST_STEPS>,
+}
+
+impl Order {
+    fn empty() -> Self {
+        Order {
+            positions: ArrayVec::new(0),
+        }
+    }
+
+    // The `index`-th order of n positions, by the digits of the index.
+    fn at(index: usize, n: usize) -> Self {
+        let mut order = Order::empty();
+        let mut digits = index;
+        for left in (1..=n).rev() {
+            let next = order.absent(n, digits % left);
+            let _ = order.positions.push(next);
+            digits /= left;
+        }
+        order
+    }
+
+    // The position that `skipped` others come ahead of, among those that it lacks.
+    fn absent(&self, n: usize, skipped: usize) -> usize {
+        (0..n)
+            .filter(|x| !self.as_slice().contains(x))
+            .nth(skipped)
+            .unwrap_or(n)
+    }
+
+    pub(crate) fn as_slice(&self) -> &[usize] {
+        self.positions.as_slice()
+    }
+
+    // The place of x, the number of places where it has none.
+    fn place(&self, x: usize) -> usize {
+        let positions = self.as_slice();
+        positions
+            .iter()
+            .position(|y| *y == x)
+            .unwrap_or(positions.len())
+    }
+
+    // Whether nothing foreign stands between the first and the last position of the block.
+    fn keeps_together(&self, block: &Run) -> bool {
+        let from_first = self.as_slice().iter().skip_while(|x| !block.has(**x));
+        !from_first
+            .skip_while(|x| block.has(**x))
+            .any(|x| block.has(*x))
+    }
+
+    // Whether i comes before j wherever i is tied before j, and every block stays together.
+    fn is_permitted(&self, model: &Model) -> bool {
+        model
+            .ties()
+            .iter()
+            .all(|&(i, j)| self.place(i) < self.place(j))
+            && model
+                .blocks()
+                .iter()
+                .all(|block| self.keeps_together(block))
+    }
+}
+
+fn factorial(n: usize) -> usize {
+    (1..=n).fold(1, |product: usize, k| product.saturating_mul(k))
+}
+
+// A sheet with its running orders.
+#[derive(Drop)]
+pub(crate) struct Orders<'a> {
+    pub(crate) model: &'a Model,
+    pub(crate) all: ArrayVec<Order, MOST_ORDERS>,
+}
+
+impl<'a> Orders<'a> {
+    pub(crate) fn of(model: &'a Model) -> Self {
+        let n = model.steps();
+        let every = (0..factorial(n)).map(|index| Order::at(index, n));
+        Orders {
+            model,
+            all: listed(
+                Order::empty(),
+                every.filter(|order| order.is_permitted(model)),
+            ),
+        }
+    }
+}

@@ -1,0 +1,28 @@
+// Many small sheets made at random, each compared with what the definitions say of it: with the list of all its running
+// orders, and with the rules of the edits, followed on plain lists.
+
+#![tactic(auto)]
+
+mod checking;
+mod choosing;
+mod closing;
+mod differing;
+mod editing;
+mod ends;
+mod enumeration;
+mod facts;
+mod lists;
+mod model;
+mod moving;
+mod random;
+mod rules;
+mod shapes;
+mod tasks;
+mod verdicts;
+
+pub use checking::compare_checks;
+pub use differing::Difference;
+pub use editing::compare_edits;
+pub use ends::{Count, End, Ends, Kind};
+pub use random::Random;
+pub use shapes::Shapes;

@@ -1,0 +1,103 @@
+// A sheet kept a second time as plain lists.
+use crate::lists::{Actions, Pair, Pairs, Run, Runs, listed, pairs, pairs_where};
+use sheet::Sheet;
+
+// The action numbers of the steps, the ties (i, j) and the blocks.
+#[derive(Clone, Copy)]
+pub(crate) struct Model {
+    pub(crate) actions: Actions,
+    pub(crate) ties: Pairs,
+    pub(crate) blocks: Runs,
+}
+
+impl Model {
+    // The plan with all ties and no block.
+    pub(crate) fn laid(plan: &[u32]) -> Self {
+        Model {
+            actions: listed(0, plan.iter().copied()),
+            ties: pairs_where(plan.len(), |(i, j)| i < j),
+            blocks: Runs::new(Run::of(0)),
+        }
+    }
+
+    // What the sheet says of itself.
+    pub(crate) fn read(sheet: &Sheet) -> Self {
+        let n = sheet.steps();
+        let blocks = pairs_where(n, |(a, b)| sheet.is_block(a, b));
+        Model {
+            actions: listed(0, sheet.actions().iter().map(|number| u32::from(*number))),
+            ties: pairs_where(n, |(i, j)| sheet.is_tied(i, j)),
+            blocks: listed(
+                Run::of(0),
+                blocks.as_slice().iter().map(|pair| Run::from(*pair)),
+            ),
+        }
+    }
+
+    // Whether the sheet has these steps, ties and blocks, and no others: by its type none goes past its steps.
+    pub(crate) fn is_sheet(&self, sheet: &Sheet) -> bool {
+        self.has_steps_of(sheet)
+            && pairs(self.steps()).as_slice().iter().all(|&(i, j)| {
+                sheet.is_tied(i, j) == self.is_tied(i, j)
+                    && sheet.is_block(i, j) == self.is_block(&Run::from((i, j)))
+            })
+    }
+
+    fn has_steps_of(&self, sheet: &Sheet) -> bool {
+        sheet
+            .actions()
+            .iter()
+            .map(|number| u32::from(*number))
+            .eq(self.actions().iter().copied())
+    }
+
+    // Whether the sheet gives the same part of every position against every other.
+    pub(crate) fn has_parts_of(&self, sheet: &Sheet) -> bool {
+        let n = self.steps();
+        pairs(n.saturating_add(1)).as_slice().iter().all(|&(i, j)| {
+            let are_apart = i < n && j < n && i != j;
+            sheet.part(i, j).map(Run::from) == are_apart.then(|| self.part(i, j))
+        })
+    }
+
+    pub(crate) fn actions(&self) -> &[u32] {
+        self.actions.as_slice()
+    }
+
+    pub(crate) fn ties(&self) -> &[Pair] {
+        self.ties.as_slice()
+    }
+
+    pub(crate) fn blocks(&self) -> &[Run] {
+        self.blocks.as_slice()
+    }
+
+    // The blocks that pass.
+    pub(crate) fn blocks_where<F: Fn(&Run) -> bool>(&self, passes: F) -> Runs
+        requires { F.IsAlwaysCallable passes }
+    {
+        let passing = self.blocks().iter().copied().filter(|block| passes(block));
+        listed(Run::of(0), passing)
+    }
+
+    pub(crate) fn steps(&self) -> usize {
+        self.actions.len()
+    }
+
+    pub(crate) fn is_tied(&self, i: usize, j: usize) -> bool {
+        self.ties().contains(&(i, j))
+    }
+
+    pub(crate) fn is_block(&self, run: &Run) -> bool {
+        self.blocks().contains(run)
+    }
+
+    // The largest step or block that has `i` and not `j`.
+    pub(crate) fn part(&self, i: usize, j: usize) -> Run {
+        let blocks = self.blocks().iter().copied();
+        blocks
+            .filter(|block| block.has(i) && !block.has(j))
+            .max_by_key(|block| block.reach())
+            .unwrap_or(Run::of(i))
+    }
+}
