@@ -22,6 +22,7 @@ pub enum TurnFault {
     End,
 }
 
+// By hand, as the two below: the contracts name the fault that a `?` makes.
 impl From<Full> for TurnFault {
     ghost from_gives = { λ _ r. r ≡ no_room };
 

@@ -1,5 +1,5 @@
 // All running orders of a sheet, by their definition: every order of the positions is tried.
-use crate::lists::{MOST_STEPS, Run, listed};
+use crate::lists::{MOST_STEPS, Run};
 use crate::model::Model;
 use sets::list::ArrayVec;
 
@@ -90,7 +90,7 @@ impl<'a> Orders<'a> {
         let every = (0..factorial(n)).map(|index| Order::at(index, n));
         Orders {
             model,
-            all: listed(
+            all: ArrayVec::collect(
                 Order::empty(),
                 every.filter(|order| order.is_permitted(model)),
             ),

@@ -60,10 +60,6 @@ impl PlainFacts {
 
 impl From<PlainFacts> for Facts {
     fn from(plain: PlainFacts) -> Facts {
-        let mut facts = Facts::empty();
-        for fact in (0..FACTS).filter(|fact| plain.has(*fact)) {
-            facts.insert(fact);
-        }
-        facts
+        Facts::below_where(FACTS, |fact| plain.has(fact))
     }
 }

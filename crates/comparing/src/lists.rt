@@ -55,24 +55,9 @@ impl From<Pair> for Run {
     }
 }
 
-// The items, as far as there is room; `fill` only fills the room.
-pub(crate) fn listed<T: Copy, I: Iterator<Item = T>, const N: usize>(
-    fill: T,
-    items: I,
-) -> ArrayVec<T, N>
-    requires can { I.can_next items }
-    requires ends { IsFinite (I.remaining items) }
-{
-    let mut list = ArrayVec::new(fill);
-    for item in items {
-        let _ = list.push(item);
-    }
-    list
-}
-
 // All pairs of numbers below `n`.
 pub(crate) fn pairs(n: usize) -> Pairs {
-    listed((0, 0), (0..n).flat_map(|i| (0..n).map(move |j| (i, j))))
+    ArrayVec::collect((0, 0), (0..n).flat_map(|i| (0..n).map(move |j| (i, j))))
 }
 
 // The pairs of numbers below `n` that pass.
@@ -81,5 +66,5 @@ pub(crate) fn pairs_where<F: Fn(Pair) -> bool>(n: usize, passes: F) -> Pairs
 {
     let all = pairs(n);
     let passing = all.as_slice().iter().copied().filter(|pair| passes(*pair));
-    listed((0, 0), passing)
+    ArrayVec::collect((0, 0), passing)
 }

@@ -1,5 +1,6 @@
 // A sheet kept a second time as plain lists.
-use crate::lists::{Actions, Pair, Pairs, Run, Runs, listed, pairs, pairs_where};
+use crate::lists::{Actions, Pair, Pairs, Run, Runs, pairs, pairs_where};
+use sets::list::ArrayVec;
 use sheet::Sheet;
 
 // The action numbers of the steps, the ties (i, j) and the blocks.
@@ -14,7 +15,7 @@ impl Model {
     // The plan with all ties and no block.
     pub(crate) fn laid(plan: &[u32]) -> Self {
         Model {
-            actions: listed(0, plan.iter().copied()),
+            actions: ArrayVec::collect(0, plan.iter().copied()),
             ties: pairs_where(plan.len(), |(i, j)| i < j),
             blocks: Runs::new(Run::of(0)),
         }
@@ -25,9 +26,9 @@ impl Model {
         let n = sheet.steps();
         let blocks = pairs_where(n, |(a, b)| sheet.is_block(a, b));
         Model {
-            actions: listed(0, sheet.actions().iter().map(|number| u32::from(*number))),
+            actions: ArrayVec::collect(0, sheet.actions().iter().map(|number| u32::from(*number))),
             ties: pairs_where(n, |(i, j)| sheet.is_tied(i, j)),
-            blocks: listed(
+            blocks: ArrayVec::collect(
                 Run::of(0),
                 blocks.as_slice().iter().map(|pair| Run::from(*pair)),
             ),
@@ -77,7 +78,7 @@ impl Model {
         requires { F.IsAlwaysCallable passes }
     {
         let passing = self.blocks().iter().copied().filter(|block| passes(block));
-        listed(Run::of(0), passing)
+        ArrayVec::collect(Run::of(0), passing)
     }
 
     pub(crate) fn steps(&self) -> usize {

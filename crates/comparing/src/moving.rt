@@ -1,7 +1,7 @@
 // Sheets made of the positions of another.
 ghost use Rattle.std.specs.Iterator.{IsFinite};
 
-use crate::lists::{MOST_STEPS, Pairs, Run, Runs, listed, pairs_where};
+use crate::lists::{MOST_STEPS, Pairs, Run, Runs, pairs_where};
 use crate::model::Model;
 use sets::list::ArrayVec;
 
@@ -17,7 +17,7 @@ impl Sources {
         requires ends { IsFinite (I.remaining positions) }
     {
         Sources {
-            positions: listed(0, positions),
+            positions: ArrayVec::collect(0, positions),
         }
     }
 
@@ -43,14 +43,14 @@ impl Sources {
     }
 
     pub(crate) fn blocks(&self, blocks: &[Run]) -> Runs {
-        listed(Run::of(0), blocks.iter().map(|block| self.block(block)))
+        ArrayVec::collect(Run::of(0), blocks.iter().map(|block| self.block(block)))
     }
 
     // The same steps in another order, with their ties and blocks.
     pub(crate) fn moved(&self, model: &Model) -> Model {
         let positions = self.positions.as_slice().iter();
         Model {
-            actions: listed(0, positions.filter_map(|i| model.actions.get(*i))),
+            actions: ArrayVec::collect(0, positions.filter_map(|i| model.actions.get(*i))),
             ties: self.ties(model),
             blocks: self.blocks(model.blocks()),
         }

@@ -1,10 +1,11 @@
 // The rules of the edits, followed on plain lists.
 use crate::enumeration::Orders;
-use crate::lists::{Run, listed};
+use crate::lists::Run;
 use crate::model::Model;
 use crate::moving::Sources;
 use crate::tasks::PlainTariff;
 use edits::Edit;
+use sets::list::ArrayVec;
 use shaping::EditFault;
 
 // The sheet afterwards, and what it saves.
@@ -117,7 +118,7 @@ impl Asked<'_> {
         let ties = self.model.ties().iter().copied();
         let kept = ties.filter(|&(x, y)| !(first.has(x) && second.has(y)));
         let mut asked = *self.model;
-        asked.ties = listed((0, 0), kept);
+        asked.ties = ArrayVec::collect((0, 0), kept);
         self.good(asked)
     }
 
@@ -140,7 +141,7 @@ impl Asked<'_> {
             });
         }
         Model {
-            actions: listed(0, actions.copied()),
+            actions: ArrayVec::collect(0, actions.copied()),
             ties: sources.ties(self.model),
             blocks,
         }

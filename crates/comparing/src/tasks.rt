@@ -2,7 +2,6 @@
 ghost use Rattle.std.specs.Iterator.{IsFinite};
 
 use crate::facts::{FACTS, PlainFacts};
-use crate::lists::listed;
 use crate::random::Random;
 use sets::list::ArrayVec;
 use sheet::SheetFault;
@@ -98,7 +97,7 @@ impl PlainTask {
             ..*effect
         });
         PlainTask {
-            effects: listed(IDLE, needless),
+            effects: ArrayVec::collect(IDLE, needless),
             goal: PlainFacts::NONE,
             ..*self
         }
@@ -108,7 +107,7 @@ impl PlainTask {
     pub(crate) fn shortened(&self, actions: usize) -> Self {
         let first = self.effects.as_slice().iter().copied().take(actions);
         PlainTask {
-            effects: listed(IDLE, first),
+            effects: ArrayVec::collect(IDLE, first),
             ..*self
         }
     }

@@ -7,7 +7,6 @@ mod applying;
 mod edit;
 mod pairs;
 mod replacing;
-mod steps;
 mod swapping;
 
 pub use applying::apply;

@@ -7,7 +7,6 @@ ghost use Rattle.sheet.specs.Sheets.{actions, outline};
 ghost use Rattle.sheet.specs.Verdicts.{AllKnown, FirstUnknown};
 
 use crate::pairs::rows_of;
-use crate::steps::listed;
 use sets::list::ArrayVec;
 use shaping::{EditFault, adopt};
 use sheet::{Sheet, SheetFault, first_unknown};
@@ -104,7 +103,7 @@ impl<'s> Offer<'s> {
         let front = steps[..self.first].iter().copied();
         let list = self.list.iter().map(|number| *number as u8);
         let rest = steps[self.last + 1..].iter().copied();
-        listed(front.chain(list).chain(rest))
+        ArrayVec::collect(0, front.chain(list).chain(rest))
     }
 
     // The sheet asked for.

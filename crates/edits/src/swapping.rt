@@ -8,7 +8,6 @@ ghost use Rattle.sets.specs.Member.{member};
 ghost use Rattle.sheet.specs.Rows.{in_row};
 ghost use Rattle.sheet.specs.Sheets.{actions, outline};
 
-use crate::steps::listed;
 use sets::bits::BitSet;
 use sets::list::ArrayVec;
 use shaping::EditFault;
@@ -121,7 +120,8 @@ impl Runs {
         } = self;
         let steps = sheet.actions();
         let turned = steps[second..last + 1].iter().chain(&steps[first..second]);
-        listed(
+        ArrayVec::collect(
+            0,
             steps[..first]
                 .iter()
                 .chain(turned)
@@ -136,9 +136,7 @@ impl Runs {
 pub fn swap(sheet: &mut Sheet, k: usize) -> Result<(), EditFault>
     ensures { Swaps sheet.old k result sheet.new }
 {
-    let Some(runs) = Runs::of(sheet, k) else {
-        return Err(EditFault::Position);
-    };
+    let runs = Runs::of(sheet, k).ok_or(EditFault::Position)?;
     if sheet.is_tied(k - 1, k) {
         return Err(EditFault::Tie);
     }

@@ -1,9 +1,10 @@
 // A list with room for N elements.
-ghost use Rattle.std.specs.Prelude.{◌≡◌, ◌<◌, ◌≤◌, [], ◌∷◌, ◌++◌, length, MatchResult, ◌==◌, ⊤};
+ghost use Rattle.std.specs.Prelude.{◌≡◌, ◌<◌, ◌≤◌, List, [], ◌∷◌, ◌++◌, length, MatchResult, ◌==◌, ⊤};
 
 use std::alloc::AllocError;
 
-// The elements are the first `len` of `items`; what stands behind them is not looked at.
+// The elements are the first `len` of `items`; what stands behind them is not looked at. Nothing is allocated, as everywhere
+// below the programs, and a list is copied as a value, which the kit's list of this name is not.
 pub struct ArrayVec<T, const N: usize> {
     items: [T; N],
     len: usize,
@@ -12,6 +13,7 @@ pub struct ArrayVec<T, const N: usize> {
 }
 
 impl<T: Copy, const N: usize> ArrayVec<T, N> {
+    ghost use Rattle.std.specs.Iterator.{AlwaysYields, IsFinite};
     ghost use Rattle.std.specs.List.{slice_get};
     ghost use Rattle.sets.specs.Contents.{contents};
 
@@ -23,6 +25,19 @@ impl<T: Copy, const N: usize> ArrayVec<T, N> {
             items: [fill; N],
             len: 0,
         }
+    }
+
+    // The items that the iterator yields, as far as there is room; `fill` only fills it.
+    pub fn collect<I: Iterator<Item = T> + Drop>(fill: T, items: I) -> Self
+        requires can { I.can_next items }
+        requires finite { IsFinite (I.remaining items) }
+        ensures { (all : List T) → AlwaysYields I.next_gives (λ x. x) items all → length all ≤ N → contents result ≡ all }
+    {
+        let mut list = ArrayVec::new(fill);
+        for item in items {
+            let _ = list.push(item);
+        }
+        list
     }
 
     pub fn len(&self) -> usize

@@ -74,7 +74,7 @@ fn needed(task: &Task, sheet: &Sheet, p: usize) -> Facts
     step(task, sheet, p).needs
 }
 
-// The facts that are added at one of the positions below `n`.
+// The facts that are added at one of the positions below `n`. A fold would have the same test in its closure.
 fn supplied(adds: &[Facts], positions: &BitSet<2>, n: usize) -> Facts
     ensures { (f : ℕ) → member result.words f ≡ some_below n (λ x. in_row adds.now x f && member positions.now.words x) }
 {
@@ -125,7 +125,7 @@ impl<'t, 's> Setting<'t, 's> {
         taken.minus(&supplied(&self.adds, &forced, self.sheet.steps()))
     }
 
-    // The facts that place `p` is wanting.
+    // The facts that place `p` is wanting. A fold over the positions would say no more than the loop.
     fn wanting_at(&self, p: usize) -> Facts
         ensures { (f : ℕ) → member result.words f
             ≡ missing (outline self.now.sheet.now) (effects self.now.task.now self.now.sheet.now) p f }

@@ -16,7 +16,7 @@ pub fn row<const W: usize>(rows: &[BitSet<W>], i: usize) -> BitSet<W>
     }
 }
 
-// The highest member.
+// The highest member. With `find` over the same range the promise stayed open.
 pub fn highest(set: &BitSet<2>) -> Option<usize>
     ensures { MatchOption result
         ((i : ℕ) → member set.now.words i ≡ false)

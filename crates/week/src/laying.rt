@@ -45,11 +45,7 @@ pub fn lay_week(book: &[u8]) -> Result<LaidWeek, Reply>
 fn plan_of(sheet: &Sheet) -> Plan
     ensures { contents result ≡ actions sheet.now }
 {
-    let mut plan = ArrayVec::new(0);
-    for number in sheet.actions() {
-        plan.push(u32::from(*number)).unwrap();
-    }
-    plan
+    ArrayVec::collect(0, sheet.actions().iter().copied().map(u32::from))
 }
 
 // Writes the listing of a sheet to the front of `out`, by the book's prices, and returns its length. A buffer that is too

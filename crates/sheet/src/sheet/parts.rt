@@ -25,7 +25,7 @@ impl Sheet {
         Some(self.span(i, j))
     }
 
-    // The same for a position `i` and any other number `j`.
+    // The same for a position `i` and any other number `j`. A `find_map` would make the pair in its closure, and is no plainer.
     fn span(&self, i: usize, j: usize) -> (usize, usize)
         requires { (i < (outline self.now).size) × ((i ≢ j)) }
         ensures part { IsPart (outline self.now) i j result.0 result.1 }

@@ -8,14 +8,14 @@ use Rattle.edits.proofs.PutIn.{laid_in}
 use Rattle.edits.proofs.replacing.Offer.steps.Goals as goal
 use Rattle.sheet.specs.Sheets.{actions}
 
-pub listed-requires-clause-can : goal.listed-requires-clause-can
-listed-requires-clause-can c =
+pub collect-requires : goal.collect-requires
+collect-requires c =
     let road : YieldsList fronts (λ (y : Bor ℕ). y.now) c.chain-2.result.a.b.iter c.args.self.now.list.now = YieldsList-from_slice c.args.self.now.list.now (cc) in
-    ((λ _. ((λ _. tt), (λ _. (tt, serves_from_places road (λ x q k. search rules) (λ x k l e. omega (arith, e, c.args.self.now.small k, get_or_default c.args.self.now.list.now k x.now 0 l)))))), (λ _. tt))
+    (omega arith, (((λ _. ((λ _. tt), (λ _. (tt, serves_from_places road (λ x q k. search rules) (λ x k l e. omega (arith, e, c.args.self.now.small k, get_or_default c.args.self.now.list.now k x.now 0 l)))))), (λ _. tt)), search rules))
 
 pub returns : goal.returns
 returns c = laid_in (actions c.args.self.now.sheet.now) _ _ _ c.args.self.now.run.0 c.args.self.now.run.1 c.args.self.now.room _ c.actions-steps.ensures _
-    (c.listed.ensures _
+    (c.collect.ensures _
     (YieldsList-from_chain
     (YieldsList-at c.chain-2.ensures.first (YieldsList-from_chain
     (YieldsList-at c.chain.ensures.first (YieldsList-from_copied (YieldsList-at c.copied-front.ensures.source (YieldsList-from_slice _ c.iter.ensures.rest))))

@@ -10,7 +10,7 @@ pub returns : goal.returns
 returns c =
     let xs = c.actions-steps.result.now in
     let runs = c.args.self in
-    laid_turned (actions c.args.sheet.now) runs.first runs.second runs.last runs.ahead runs.behind c.requires (contents_fit c.args.sheet.now.steps) xs c.actions-steps.ensures (contents c.listed.result) (c.listed.ensures _
+    laid_turned (actions c.args.sheet.now) runs.first runs.second runs.last runs.ahead runs.behind c.requires (contents_fit c.args.sheet.now.steps) xs c.actions-steps.ensures (contents c.collect.result) (c.collect.ensures _
     (YieldsList-from_copied (YieldsList-at c.copied.ensures.source (YieldsList-from_chain
     (YieldsList-at c.chain-2.ensures.first (YieldsList-from_chain
     (YieldsList-at c.chain.ensures.first (YieldsList-from_slice _ c.iter-2.ensures.rest))
