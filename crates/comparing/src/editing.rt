@@ -135,7 +135,7 @@ impl Twin {
             && self.balances(&before, &plain, tariff, saving)
             && self.is_sound(plain.task, task);
         let number = answer.err().map(|fault| fault.number());
-        agrees.then(|| End(Kind::from(edit), number)).ok_or(Differs)
+        agrees.then(|| End(Kind::of(edit), number)).ok_or(Differs)
     }
 }
 

@@ -13,8 +13,8 @@ pub enum Kind {
     Replace,
 }
 
-impl From<Edit<'_>> for Kind {
-    fn from(edit: Edit<'_>) -> Self {
+impl Kind {
+    pub(crate) fn of(edit: Edit<'_>) -> Self {
         match edit {
             Edit::Swap(_) => Kind::Swap,
             Edit::Group(_, _) => Kind::Group,
@@ -25,7 +25,8 @@ impl From<Edit<'_>> for Kind {
     }
 }
 
-// The kind of an edit, and the number of its refusal; None where it was carried out.
+// The kind of an edit, and the number of its refusal; None where it was carried out. A number, since a refusal also names an
+// action or a place, and these ends are counted by reason.
 #[derive(Clone, Copy, Debug, PartialEq, Eq)]
 pub struct End(pub Kind, pub Option<u32>);
 

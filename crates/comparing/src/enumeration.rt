@@ -19,7 +19,7 @@ impl Order {
         }
     }
 
-    // The `index`-th order of n positions, by the digits of the index.
+    // The `index`-th order of n positions, by the digits of the index. Each step changes the order and the digits.
     fn at(index: usize, n: usize) -> Self {
         let mut order = Order::empty();
         let mut digits = index;

@@ -1,7 +1,7 @@
 // A sheet kept a second time as plain lists.
 use crate::lists::{Actions, Pair, Pairs, Run, Runs, pairs, pairs_where};
 use sets::list::ArrayVec;
-use sheet::Sheet;
+use sheet::{Relation, Sheet};
 
 // The action numbers of the steps, the ties (i, j) and the blocks.
 #[derive(Clone, Copy)]
@@ -9,6 +9,13 @@ pub(crate) struct Model {
     pub(crate) actions: Actions,
     pub(crate) ties: Pairs,
     pub(crate) blocks: Runs,
+}
+
+// How many pairs the relation has.
+fn size_of(relation: &Relation) -> usize {
+    (0..128).fold(0, |size: usize, i| {
+        size.saturating_add(relation.row(i).count())
+    })
 }
 
 impl Model {
@@ -35,13 +42,15 @@ impl Model {
         }
     }
 
-    // Whether the sheet has these steps, ties and blocks, and no others: by its type none goes past its steps.
+    // Whether the sheet has these steps, ties and blocks, and no others, in none of its rows.
     pub(crate) fn is_sheet(&self, sheet: &Sheet) -> bool {
         self.has_steps_of(sheet)
             && pairs(self.steps()).as_slice().iter().all(|&(i, j)| {
                 sheet.is_tied(i, j) == self.is_tied(i, j)
                     && sheet.is_block(i, j) == self.is_block(&Run::from((i, j)))
             })
+            && size_of(&sheet.behind) == self.ties.len()
+            && size_of(&sheet.blocks) == self.blocks.len()
     }
 
     fn has_steps_of(&self, sheet: &Sheet) -> bool {

@@ -27,7 +27,8 @@ impl Orders<'_> {
         needs.shared(self.missed(task, place)).lowest()
     }
 
-    // The lowest wanting place and its lowest wanting fact, unless an action is unknown.
+    // The lowest wanting place and its lowest wanting fact, unless an action is unknown. `find_map` would need a second step
+    // to turn what it finds to a refusal.
     pub(crate) fn verdict(&self, task: &PlainTask) -> Result<(), SheetFault> {
         task.knows(self.model.actions())?;
         for place in 0..=self.model.steps() {

@@ -26,10 +26,10 @@ module _ (xs : List ℕ) (a b : ℕ) (ys : List ℕ) where
     abbrev piece_by_piece : List ℕ → List ℕ
     piece_by_piece zs = (take a zs ++ map (λ n. n) ys) ++ take (length zs - (b + 1)) (drop (b + 1) zs)
 
-    pub laid_in : length xs + (a + length ys) - suc b ≤ 128 → (zs : List ℕ) → zs ≡ xs → (made : List ℕ) → (length (piece_by_piece zs) ≤ 128 → made ≡ piece_by_piece zs) → made ≡ put_in xs a b ys
+    pub laid_in : length xs + (a + length ys) - suc b ≤ 128 → (zs : List ℕ) → zs ≡ xs → (made : List ℕ) → made ≡ take 128 (piece_by_piece zs) → made ≡ put_in xs a b ys
     laid_in few zs e made is =
         let whole : piece_by_piece zs ≡ put_in xs a b ys = rw e (simp (add-one, append_assoc, map-id) (ap (λ (ds : List ℕ). take a xs ++ (ys ++ ds)) (take_all _ (drop (suc b) xs) (omega (arith, length-drop (suc b) xs))))) in
-        is (rw (whole, length-put_in) few) ∙ whole
+        is ∙ take_all 128 (piece_by_piece zs) (rw (whole, length-put_in) few) ∙ whole
 
     -- the sum changes by the list and the run
     pub sum_by-put_in : (price : ℕ → ℕ) → sum_by price (put_in xs a b ys) + sum_by price (from_to xs a b) ≡ sum_by price xs + sum_by price ys

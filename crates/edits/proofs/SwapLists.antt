@@ -69,7 +69,7 @@ module _ (xs : List ℕ) (a k b : ℕ) (left : a < k) (right : k ≤ b) (size : 
       ap (λ (zs : List ℕ). slice_get zs x) (made ∙ sym (fill_by_all (λ y. get_or xs (comes a k b y) 0) turned n 0 (length-turned ∙ sym e) (λ y l. get_or-turned y (omega arith)))) ∙ slice_get-turned x
 
   -- the list that was made run by run
-  pub laid_turned : length xs ≤ 128 → (zs : List ℕ) → zs ≡ xs → (ys : List ℕ) → (length (run_by_run zs) ≤ 128 → ys ≡ run_by_run zs) → (x : ℕ) → slice_get ys x ≡ slice_get xs (comes a k b x)
+  pub laid_turned : length xs ≤ 128 → (zs : List ℕ) → zs ≡ xs → (ys : List ℕ) → ys ≡ take 128 (run_by_run zs) → (x : ℕ) → slice_get ys x ≡ slice_get xs (comes a k b x)
   laid_turned few zs e ys made x =
       let whole : run_by_run zs ≡ turned = rw e (simp (add-one, append_assoc) (ap (λ (ds : List ℕ). take a xs ++ (between k (suc b) xs ++ (between a k xs ++ ds))) (take_all _ (drop (suc b) xs) (omega (arith, length-drop (suc b) xs))))) in
-      ap (λ (l : List ℕ). slice_get l x) (made (rw (whole, length-turned) few) ∙ whole) ∙ slice_get-turned x
+      ap (λ (l : List ℕ). slice_get l x) (made ∙ take_all 128 (run_by_run zs) (rw (whole, length-turned) few) ∙ whole) ∙ slice_get-turned x

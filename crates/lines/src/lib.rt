@@ -81,7 +81,7 @@ fn room_after(room: usize, word: &[u8], numbers: &[usize]) -> Option<usize>
     left.checked_sub(1)
 }
 
-// Writes a line at `at`, and returns the place behind it.
+// Writes a line at `at`, and returns the place behind it. The word and the numbers come as two: they are taken apart at once.
 fn put_line(out: &mut [u8], at: usize, word: &[u8], numbers: &[usize]) -> usize
     requires { at + length (line_text word.now numbers.now) ≤ length out.old }
     ensures { Put (line_text word.now numbers.now) out.old at result out.new }

@@ -36,6 +36,7 @@ pub fn rehearse_number(
     Ok(())
 }
 
+// Here and below a plan that is refused ends its rehearsal, told and with no fault, which a `?` would make of it.
 pub fn rehearse_far_numbers(rt: &HostRuntime) -> anyhow::Result<()> {
     println!(rt; "-- numbers far out of range")?;
     let task = idle();

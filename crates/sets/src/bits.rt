@@ -34,7 +34,7 @@ impl<const W: usize> BitSet<W> {
         BitSet { words }
     }
 
-    // The numbers below `k` that pass, as far as there is room.
+    // The numbers below `k` that pass, as far as there is room. The loop is here once, for all that make a set by a test.
     pub fn below_where<F: Fn(usize) -> bool>(k: usize, passes: F) -> Self
         requires { (j : ℕ) → j < k → F.pre passes j }
         ensures test { (j : ℕ) → j < k → j < 64 * W → (passed : Bool) × F.post passes j passed × (member result.words j ≡ passed) }
@@ -55,7 +55,7 @@ impl<const W: usize> BitSet<W> {
         i / 64 < W && (self.words[i / 64] >> (i % 64)) & 1 == 1
     }
 
-    // Puts `i` in, and says whether there is room for it, by a bool as the `insert` of any set.
+    // Puts `i` in, and says whether there is room for it. By a bool: a number without room is no fault to any caller.
     pub fn insert(&mut self, i: usize) -> bool
         ensures room { result ≡ nat_lt i (64 * W) }
         ensures members { (j : ℕ) → member self.new.words j ≡ (member self.old.words j || (j == i && nat_lt i (64 * W))) }
@@ -109,6 +109,7 @@ impl<const W: usize> BitSet<W> {
         }
     }
 
+    // By `enumerate`: with `position` the promise stayed open.
     pub fn lowest(&self) -> Option<usize>
         ensures { MatchOption result
             ((i : ℕ) → member self.now.words i ≡ false)
@@ -160,8 +161,8 @@ impl<const W: usize> BitSet<W> {
     }
 }
 
-// Each word of `a` joined with that of `b` in its place. By index: nothing is known of the entries that `array::from_fn`
-// makes.
+// Each word of `a` joined with that of `b` in its place. By index: with `array::from_fn` the promise stayed
+// open.
 fn zip_words<F: Fn(u64, u64) -> u64, const W: usize>(
     a: &[u64; W],
     b: &[u64; W],

@@ -1,5 +1,5 @@
 // A list with room for N elements.
-ghost use Rattle.std.specs.Prelude.{◌≡◌, ◌<◌, ◌≤◌, List, [], ◌∷◌, ◌++◌, length, MatchResult, ◌==◌, ⊤};
+ghost use Rattle.std.specs.Prelude.{◌≡◌, ◌<◌, ◌≤◌, List, [], ◌∷◌, ◌++◌, length, take, MatchResult, ◌==◌, ⊤};
 
 use std::alloc::AllocError;
 
@@ -28,10 +28,10 @@ impl<T: Copy, const N: usize> ArrayVec<T, N> {
     }
 
     // The items that the iterator yields, as far as there is room; `fill` only fills it.
-    pub fn collect<I: Iterator<Item = T> + Drop>(fill: T, items: I) -> Self
+    pub fn collect<I: Iterator<Item = T>>(fill: T, items: I) -> Self
         requires can { I.can_next items }
         requires finite { IsFinite (I.remaining items) }
-        ensures { (all : List T) → AlwaysYields I.next_gives (λ x. x) items all → length all ≤ N → contents result ≡ all }
+        ensures { (all : List T) → AlwaysYields I.next_gives (λ x. x) items all → contents result ≡ take N all }
     {
         let mut list = ArrayVec::new(fill);
         for item in items {

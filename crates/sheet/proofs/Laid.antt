@@ -29,11 +29,6 @@ module _ (steps : ArrayVec ℕ 128) (behind blocks : List (BitSet 2)) (ties : (i
   pub laid_rules : Rules (outlined steps behind blocks)
   laid_rules = subst Rules (sym laid_outline) (row_rules (length (contents steps)))
 
--- there is room for one more
-pub pushed_more : (v w : ArrayVec ℕ 128) (plan : List ℕ) (i : ℕ) (r : Result (Unit {0}) ℕ) → contents v ≡ take i plan → i < length plan → length plan ≤ 128 → MatchResult r (λ _. (length (contents v) < 128) × (contents w ≡ contents v ++ get_or plan i 0 ∷ [])) (λ e. (length (contents v) ≡ 128) × (w ≡ v) × (e ≡ get_or plan i 0)) → contents w ≡ take (i + 1) plan
-pushed_more v w plan i (Ok _) e l few h = h.1 ∙ ap (λ (front : List ℕ). front ++ get_or plan i 0 ∷ []) e ∙ sym (take_more plan i 0 l)
-pushed_more v w plan i (Err _) e l few h = absurd (omega (arith, h.0, ap length e, length-take-le i plan (omega arith)))
-
 -- what a task has is below 128
 pub known_small : (task : Task) (numbers : List ℕ) → AllKnown task numbers → (i : ℕ) → get_or numbers i 0 < 128
 known_small task numbers known i = ⊎_elim

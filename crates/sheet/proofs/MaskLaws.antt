@@ -42,13 +42,6 @@ module _ (s : Outline) (rules : Rules s) where
       (λ h. let t = tied_to d x (grind (arith, nat_tests)) in grind (arith, nat_tests, cases_Bool p, cases_Bool q))
       (cases_Bool (ltb x s.size))
 
--- one more number of those that pass is put in
-pub chosen_more : (F was now : ℕ → Bool) (i : ℕ) → ((y : ℕ) → was y ≡ (ltb y i && F y)) → ((y : ℕ) → now y ≡ (was y || (eqb y i && F i))) → (y : ℕ) → now y ≡ (ltb y (i + 1) && F y)
-chosen_more F was now i before put y =
-    let k = put y in
-    let h = before y in
-    ⊎_elim (λ e. let same : F y ≡ F i = ap F e in grind (arith, nat_tests, cases_Bool (F i))) (λ n. grind (arith, nat_tests, cases_Bool (F y))) (cases_eq y i)
-
 -- what is forced between d and p, among the positions
 pub forced_is : (s : Outline) (d p x : ℕ) (set ahead : ℕ → Bool) → AreForced s d p ahead set → ((y : ℕ) → ahead y ≡ leads s y p) → x < s.size → set x ≡ forced s d p x
 forced_is s d p x set ahead are is l =

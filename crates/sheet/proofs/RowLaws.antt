@@ -45,13 +45,6 @@ module _ {W : ℕ} where
   row_lt (r ∷ rows) zero j e = member_lt r j e
   row_lt (r ∷ rows) (suc i) j e = row_lt rows i j e
 
-  -- one more row of a table
-  pub table_more : (F : ℕ → ℕ → Bool) (rows : List (BitSet W)) (i : ℕ) (r : BitSet W) → i < length rows → ((k j : ℕ) → in_row rows k j ≡ (ltb k i && F k j)) → ((j : ℕ) → member r.words j ≡ F i j) → (k j : ℕ) → in_row (set rows i r) k j ≡ (ltb k (i + 1) && F k j)
-  table_more F rows i r l before here k j = ⊎_elim
-      (λ e. subst (λ (v : ℕ). in_row (set rows i r) v j ≡ (ltb v (i + 1) && F v j)) (sym e) (row-set_same rows i r l j ∙ here j ∙ grind (arith, nat_tests)))
-      (λ n. row-set_other rows i k r n j ∙ before k j ∙ grind (arith, nat_tests))
-      (cases_eq k i)
-
   -- one more row that is made
   pub row_made : (Gives : ℕ → BitSet W → Type 0) (rows : List (BitSet W)) (i : ℕ) (r : BitSet W) → i < length rows → ((k : ℕ) → k < i → (s : BitSet W) × Gives k s × ((j : ℕ) → in_row rows k j ≡ member s.words j)) → Gives i r → (k : ℕ) → k < i + 1 → (s : BitSet W) × Gives k s × ((j : ℕ) → in_row (set rows i r) k j ≡ member s.words j)
   row_made Gives rows i r l before here k m = ⊎_elim

@@ -152,7 +152,7 @@ fn first_wanting(task: &Task, sheet: &Sheet) -> Option<(usize, usize)>
         (λ found. LowestWanting (outline sheet.now) (effects task.now sheet.now) found.0 found.1) }
 {
     let setting = Setting::new(task, sheet);
-    // The label leaves both loops at once.
+    // Loops left by a label, which the project asks for: they name the place and the fact in the order of the rule.
     'found: {
         for place in 0..sheet.steps() + 1 {
             let wanting = setting.wanting_at(place);

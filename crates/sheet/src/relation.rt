@@ -23,7 +23,7 @@ impl Relation {
         }
     }
 
-    // The relation whose row i is `row(i)`. By index: nothing is known of the entries that `array::from_fn` makes.
+    // The relation whose row i is `row(i)`. By index: with `array::from_fn` the promise stayed open.
     pub fn by_rows<F: Fn(usize) -> BitSet<2>>(row: F) -> Self
         requires { (i : ℕ) → i < 128 → F.pre row i }
         ensures rows { (i : ℕ) → i < 128 → (set : Set 2) × F.post row i set × ((j : ℕ) → in_row result.rows i j ≡ member set.words j) }

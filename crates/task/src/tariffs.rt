@@ -68,7 +68,7 @@ impl Tariff for TouchTariff<'_> {
     ghost lawful = { λ t. touch_lawful t.marked t.task.now };
 
     fn price(&self, action: u32) -> u32 {
-        // No `map_or`: nothing is known of what a closure answers that borrows the marked set.
+        // With `map_or` the promise stayed open.
         match self.task.action(action) {
             Some(a) => self.marked.intersection(&a.adds.union(&a.deletes)).count() as u32,
             None => 0,

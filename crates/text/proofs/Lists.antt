@@ -112,9 +112,6 @@ none_left text dash (n ∷ ns) = (λ l. absurd (cc l.1), λ l. absurd (undashed 
 
 -- a loop over `next`: its start, its step and its ends
 module _ {P : List ℕ → Type 0} where
-  pub reads_none : (e : Entries) → ((ns : List ℕ) → Left e ns ↔ P ns) → Reads P [] e
-  reads_none e is = record { lists = λ ns. (λ h. (ns, refl, (is ns).1 h), λ h. (is ns).0 (rw h.1 h.2)) }
-
   pub reads_more : {e e' : Entries} {done : List ℕ} {n : ℕ} → Reads P done e → Reads (Left e) (n ∷ []) e' → Reads P (done ++ n ∷ []) e'
   reads_more {done = done} {n = n} r next = record {
     lists = λ ns. (

@@ -28,6 +28,7 @@ impl<'a> Entries<'a> {
     pub fn next(&mut self) -> Result<Option<u32>, FieldFault>
         ensures { NextGives self.old result self.new }
     {
+        // A `?` would answer `None`, and not `Ok(None)`.
         let Some(text) = self.rest else {
             return Ok(None);
         };

@@ -39,7 +39,7 @@ fn carry_out(sheet: &mut Sheet, task: &Task, edit: Written<'_>) -> Result<u32, E
     apply(sheet, task, &BookTariff { task }, meant)
 }
 
-// What the program says to the answer of an edit.
+// What the program says to the answer of an edit. No `From`: neither type is of this crate.
 fn reply_to(answer: Result<u32, EditFault>) -> Reply
     ensures { reply_text result ≡ answer_text answer }
 {
