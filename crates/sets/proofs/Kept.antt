@@ -1,5 +1,5 @@
 -- What the functions on sets keep: the ghost fields, and the members after a write and in a loop.
-use Rattle.std.proofs.Common.{◌≡◌, ℕ, ◌+◌, ◌-◌, ◌*◌, ◌/◌, ◌%◌, ◌^◌, ◌<◌, min, Bool, true, false, not, ◌&&◌, ◌||◌, eqb, ltb, List, length, get_or, set, replicate, sym, refl, ap, ◌∙◌, ⊎_elim, arith, pow_mono}
+use Rattle.std.proofs.Common.{◌≡◌, ℕ, suc, ◌+◌, ◌-◌, ◌*◌, ◌/◌, ◌%◌, ◌^◌, ◌<◌, ◌≤◌, min, Bool, true, false, not, ◌&&◌, ◌||◌, eqb, ltb, List, length, get_or, set, replicate, sym, refl, ap, ◌∙◌, ⊎_elim, arith, pow_mono}
 use lib.Bits.{bit_and, bit_or}
 use lib.Count.{ones, count_trailing_zeros}
 use lib.Pow.{ones_lt}
@@ -9,8 +9,8 @@ use Rattle.std.proofs.lemmas.Bool.{and_parts, both_ways, cases_eq, cases_lt, lt-
 use Rattle.std.proofs.lemmas.Bool.Decides.{nat_tests}
 use Rattle.sets.specs.Member.{bit, member, tally}
 use Rattle.sets.specs.declared.bits.BitSet.{BitSet}
-use Rattle.sets.proofs.Laws.{bit-and, bit_not, bit_one, bit_ones, bit-or, bit_same, bit_zero, tally_add, tally_bits, tally_same, trailing_lowest}
-use Rattle.sets.proofs.Members.{member_at, member_past, member_unusable}
+use Rattle.sets.proofs.Laws.{bit-and, bit_highest, bit_not, bit_one, bit_ones, bit-or, bit_same, bit_zero, tally_add, tally_bits, tally_same, trailing_lowest}
+use Rattle.sets.proofs.Members.{member_at, member_past, member_room, member_unusable}
 
 -- what the ghost fields of a set of W words say of its words
 abbrev pub Sound : ℕ → List ℕ → Type 0
@@ -107,6 +107,16 @@ member_lowest s k p zeros =
       member_at s.words k _ low.0 ∙ low.1,
       λ j l. ⊎_elim (λ e. ap (λ (q : ℕ). bit (get_or s.words q 0) (j % 64)) e ∙ low.2 (j % 64) (omega arith))
           (λ ne. bit_same (j % 64) (zeros (j / 64) (omega (arith, low.0))) ∙ bit_zero (j % 64)) (cases_eq (j / 64) k),
+    )
+
+-- the highest bit t of the last word that is not 0
+pub member_highest : {W : ℕ} (s : BitSet W) (k t : ℕ) → t < 64 → 2 ^ t ≤ get_or s.words k 0 → get_or s.words k 0 < 2 ^ suc t → ((q : ℕ) → k < q → q < W → get_or s.words q 0 ≡ 0) → (member s.words (64 * k + t) ≡ true) × ((j : ℕ) → 64 * k + t < j → member s.words j ≡ false)
+member_highest {W} s k t small least less zeros =
+    let high = bit_highest (get_or s.words k 0) t least less in (
+      member_at s.words k t small ∙ high.0,
+      λ j l. ⊎_elim (λ e. ap (λ (q : ℕ). bit (get_or s.words q 0) (j % 64)) e ∙ high.1 (j % 64) (omega arith))
+          (λ ne. ⊎_elim (λ m. bit_same (j % 64) (zeros (j / 64) (omega arith) m) ∙ bit_zero (j % 64)) (λ m. member_room s j (omega arith)) (cases_lt (j / 64) W))
+          (cases_eq (j / 64) k),
     )
 
 -- the count of one more word's members

@@ -1,9 +1,10 @@
 -- The laws of a word's bits.
-use Rattle.std.proofs.Common.{◌≡◌, ℕ, zero, suc, ◌+◌, ◌-◌, ◌/◌, ◌%◌, ◌^◌, ◌<◌, ◌≤◌, Bool, true, false, not, ◌&&◌, ◌||◌, eqb, ltb, ◌⊎◌, sym, refl, ap, ◌∙◌, inl, inr, ⊎_elim, add-zero, add-suc, pow-suc, one-add, arith}
+use Rattle.std.proofs.Common.{◌≡◌, ℕ, zero, suc, ◌+◌, ◌-◌, ◌/◌, ◌%◌, ◌^◌, ◌<◌, ◌≤◌, Bool, true, false, not, ◌&&◌, ◌||◌, eqb, ltb, ◌⊎◌, sym, refl, ap, ◌∙◌, inl, inr, ⊎_elim, add-zero, add-suc, pow-suc, pow_mono, one-add, arith}
 use lib.Bits.{bit_and, bit_or, and_step, or_step, and_shr, or_shr}
 use lib.Count.{ones, ones_step, count_trailing_zeros, under}
 use mathlib.Core.Bool.{and-true}
 use native.Mathlib.Nat.{zero-div}
+use Rattle.std.proofs.Math.Nat.{div-eq_of_lt, div-eq_of_lt-le}
 use Rattle.std.proofs.lemmas.Nat.{pow_pos, shr-shr}
 use Rattle.std.proofs.lemmas.Bool.{cases_Bool, cases_eq}
 use Rattle.std.proofs.lemmas.Bool.Decides.{nat_tests}
@@ -74,6 +75,13 @@ trailing_lowest zero n p h = absurd (omega arith)
 trailing_lowest (suc w) n p h =
     let e = pow-suc 2 w in
     lowest_step w n (n % 2) (count_trailing_zeros w (n / 2)) refl p (λ q. trailing_lowest w (n / 2) q (omega arith))
+
+-- t is the highest bit of n
+pub bit_highest : (n t : ℕ) → 2 ^ t ≤ n → n < 2 ^ suc t → (bit n t ≡ true) × ((k : ℕ) → t < k → bit n k ≡ false)
+bit_highest n t least less =
+    let e = pow-suc 2 t in
+    let once : n / 2 ^ t ≡ 1 = div-eq_of_lt-le (2 ^ t) (omega arith) (omega arith) in
+    (rw once refl, λ k l. let more = pow_mono {i = suc t} {j = k} (omega arith) in let none : n / 2 ^ k ≡ 0 = div-eq_of_lt (omega arith) in rw none refl)
 
 pub bit_ones : (w k : ℕ) → bit (2 ^ w - 1) k ≡ ltb k w
 bit_ones w k = let p = pow_pos w in let e : 2 ^ w - 1 - 0 ≡ 2 ^ w - 1 = omega arith in rw (← e) (bit_not w 0 k p ∙ rw (bit_zero k, and-true (ltb k w)) refl)

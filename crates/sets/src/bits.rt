@@ -1,5 +1,5 @@
 // A set of numbers below 64 * W, a bit for each.
-ghost use Rattle.std.specs.Prelude.{◌≡◌, ℕ, ◌-◌, ◌*◌, ◌^◌, ◌<◌, min, Bool, true, false, not, ◌&&◌, ◌||◌, length, Decides, MatchBool, MatchOption, bit_and, bit_or, ◌==◌, nat_lt, nat_eq, slice_index};
+ghost use Rattle.std.specs.Prelude.{◌≡◌, ℕ, ◌-◌, ◌*◌, ◌^◌, ◌<◌, min, Bool, true, false, not, ◌&&◌, ◌||◌, length, Decides, MatchBool, MatchOption, bit_and, bit_or, ◌==◌, nat_le, nat_lt, nat_eq, slice_index};
 ghost use Rattle.sets.specs.Member.{member, tally};
 ghost use Rattle.std.specs.Cmp.{on_per, partial_equiv_from_equiv};
 ghost use Rattle.std.specs.Cmp.Lexicographic.{pointwise, nat_list_eq_equiv};
@@ -32,6 +32,13 @@ impl<const W: usize> BitSet<W> {
             rest = rest.saturating_sub(64);
         }
         BitSet { words }
+    }
+
+    // The numbers from `first` on and below `end`, as far as there is room.
+    pub fn range(first: usize, end: usize) -> Self
+        ensures { (j : ℕ) → member result.words j ≡ (nat_le first j && nat_lt j end && nat_lt j (64 * W)) }
+    {
+        BitSet::below(end).minus(&BitSet::below(first))
     }
 
     // The numbers below `k` that pass, as far as there is room. The loop is here once, for all that make a set by a test.
@@ -109,18 +116,22 @@ impl<const W: usize> BitSet<W> {
         }
     }
 
-    // By `enumerate`: with `position` the promise stayed open.
     pub fn lowest(&self) -> Option<usize>
         ensures { MatchOption result
             ((i : ℕ) → member self.now.words i ≡ false)
             (λ i. (member self.now.words i ≡ true) × ((j : ℕ) → j < i → member self.now.words j ≡ false)) }
     {
-        for (i, word) in self.words.iter().enumerate() {
-            if *word != 0 {
-                return Some(64 * i + word.trailing_zeros() as usize);
-            }
-        }
-        None
+        let i = self.words.iter().position(|word| *word != 0)?;
+        Some(64 * i + self.words[i].trailing_zeros() as usize)
+    }
+
+    pub fn highest(&self) -> Option<usize>
+        ensures { MatchOption result
+            ((i : ℕ) → member self.now.words i ≡ false)
+            (λ i. (member self.now.words i ≡ true) × ((j : ℕ) → i < j → member self.now.words j ≡ false)) }
+    {
+        let i = self.words.iter().rposition(|word| *word != 0)?;
+        Some(64 * i + self.words[i].ilog2() as usize)
     }
 
     pub fn is_empty(&self) -> bool
@@ -161,8 +172,7 @@ impl<const W: usize> BitSet<W> {
     }
 }
 
-// Each word of `a` joined with that of `b` in its place. By index: with `array::from_fn` the promise stayed
-// open.
+// Each word of `a` joined with that of `b` in its place. With `zip` nothing is known of what is written.
 fn zip_words<F: Fn(u64, u64) -> u64, const W: usize>(
     a: &[u64; W],
     b: &[u64; W],
@@ -173,8 +183,8 @@ fn zip_words<F: Fn(u64, u64) -> u64, const W: usize>(
     ensures words { (k : ℕ) → k < W → F.post join (slice_index a.now k) (slice_index b.now k) (slice_index result k) }
 {
     let mut words = *a;
-    for i in 0..W {
-        words[i] = join(a[i], b[i]);
+    for (i, word) in words.iter_mut().enumerate() {
+        *word = join(*word, b[i]);
     }
     words
 }

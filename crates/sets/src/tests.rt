@@ -16,7 +16,8 @@ fn one_member(rt: HostRuntime) {
             (set.insert(i), set.has(i), set.count() == 1),
             (has_room, has_room, has_room)
         );
-        assert_eq!(rt; set.lowest(), if has_room { Some(i) } else { None });
+        let only = if has_room { Some(i) } else { None };
+        assert_eq!(rt; (set.lowest(), set.highest()), (only, only));
         set.remove(i);
         assert!(rt; set.is_empty());
     }
@@ -28,6 +29,15 @@ fn two_sets(rt: HostRuntime) {
         let (a, b) = (BitSet::<2>::below(k), BitSet::<2>::below(l));
         assert_eq!(rt; (a.contains_all(&b), a.meets(&b)), (l <= k, k.min(l) > 0));
         assert_eq!(rt; a.minus(&b).count(), k.min(128).saturating_sub(l));
+        let between = BitSet::<2>::range(l, k);
+        assert_eq!(rt;
+            (between == a.minus(&b), between.lowest(), between.highest()),
+            if l < k.min(128) {
+                (true, Some(l), Some(k.min(128) - 1))
+            } else {
+                (true, None, None)
+            }
+        );
         let (more, less) = (BitSet::below(k.max(l)), BitSet::below(k.min(l)));
         assert_eq!(rt;
             (a.union(&b) == more, a.intersection(&b) == less),

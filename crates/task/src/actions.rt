@@ -1,5 +1,5 @@
 // Facts, and the actions that put them up and take them down.
-ghost use Rattle.std.specs.Prelude.{◌≡◌, ℕ, ◌<◌, ◌≤◌, MatchOption};
+ghost use Rattle.std.specs.Prelude.{◌≡◌, ℕ, ◌<◌, ◌≤◌, false, MatchOption};
 
 use sets::bits::BitSet;
 
@@ -20,6 +20,20 @@ impl Action {
     ghost use Rattle.task.specs.Perform.{after};
 
     pub const HIGHEST_PRICE: u32 = 1_000_000;
+
+    // Needs nothing, changes nothing and costs nothing.
+    pub fn idle() -> Action
+        ensures facts { (f : ℕ) → (member result.needs.words f ≡ false) × (member result.adds.words f ≡ false) × (member result.deletes.words f ≡ false) }
+        ensures price { result.price ≡ 0 }
+    {
+        let none = Facts::empty();
+        Action {
+            needs: none,
+            adds: none,
+            deletes: none,
+            price: 0,
+        }
+    }
 
     // None exactly where the price is too high.
     pub fn new(needs: Facts, adds: Facts, deletes: Facts, price: u32) -> Option<Action>

@@ -38,15 +38,9 @@ impl Task {
         ensures goal { (f : ℕ) → member result.goal.words f ≡ false }
     {
         let none = Facts::empty();
-        let idle = Action {
-            needs: none,
-            adds: none,
-            deletes: none,
-            price: 0,
-        };
         Task {
             facts: 0,
-            actions: ArrayVec::new(idle),
+            actions: ArrayVec::new(Action::idle()),
             start: none,
             goal: none,
         }

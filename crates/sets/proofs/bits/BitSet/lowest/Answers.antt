@@ -1,13 +1,12 @@
-use Rattle.std.proofs.Common.{arith}
+use Rattle.std.proofs.Common.{rules, arith}
 use Rattle.sets.proofs.Kept.{word_usable, member_lowest}
 use Rattle.sets.proofs.bits.BitSet.lowest.Goals as goal
 
 pub overflow_mul-result : goal.overflow_mul-result
-overflow_mul-result g c = omega (arith, word_usable c.args.self.now c.loop-i.i (omega arith))
+overflow_mul-result g c = omega (arith, word_usable c.args.self.now c.in_ok-i.i (search rules))
 
 pub overflow_add-result : goal.overflow_add-result
-overflow_add-result g c =
-    omega (arith, c.args.self.now.usable _ (member_lowest c.args.self.now c.loop-i.i (omega arith) c.loop-i.invariant).0)
+overflow_add-result g c = omega (arith, c.args.self.now.usable _ (member_lowest c.args.self.now c.in_ok-i.i (search rules) (λ k l. search rules)).0)
 
-pub returns-then-word-ne0 : goal.returns-then-word-ne0
-returns-then-word-ne0 g c = member_lowest c.args.self.now c.loop-i.i (omega arith) c.loop-i.invariant
+pub returns : goal.returns
+returns g c = member_lowest c.args.self.now c.in_ok-i.i (search rules) (λ k l. search rules)
