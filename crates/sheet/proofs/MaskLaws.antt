@@ -1,6 +1,6 @@
 -- The positions that go into the check.
-use Rattle.std.proofs.Common.{◌≡◌, ℕ, ◌+◌, ◌<◌, ◌≤◌, Bool, false, not, ◌&&◌, ◌||◌, eqb, ltb, ◌⊎◌, ap, ⊎_elim, arith}
-use Rattle.std.proofs.lemmas.Bool.{cases_Bool, cases_eq}
+use Rattle.std.proofs.Common.{◌≡◌, ℕ, ◌+◌, ◌<◌, ◌≤◌, Bool, false, ◌&&◌, ◌||◌, leb, ltb, ◌⊎◌, ⊎_elim, arith}
+use Rattle.std.proofs.lemmas.Bool.{cases_Bool}
 use Rattle.std.proofs.lemmas.Bool.Decides.{nat_tests}
 use Rattle.orders.proofs.Below.{refuted}
 use Rattle.orders.proofs.Parts.{together_shared}
@@ -17,7 +17,7 @@ module _ (s : Outline) (rules : Rules s) where
       (together_shared s rules x i j (grind (arith, h))))
 
   -- the numbers of a part, between its ends
-  pub part_between : (i j first last : ℕ) → i < s.size → IsPart s i j first last → last < 128 → (x : ℕ) → ((ltb x (last + 1) && ltb x 128) && not (ltb x first && ltb x 128)) ≡ (together s x i j && ltb x s.size)
+  pub part_between : (i j first last : ℕ) → i < s.size → IsPart s i j first last → last < 128 → (x : ℕ) → (leb first x && ltb x (last + 1) && ltb x 128) ≡ (together s x i j && ltb x s.size)
   part_between i j first last l part room x = ⊎_elim
       (λ h. let within : x < s.size = ⊎_elim (λ (e, n). omega arith) (λ c. omega (arith, rules.proper c.a c.b c.block, c.has_x)) (together_shared s rules x i j h) in grind (arith, nat_tests, part x))
       (λ h. grind (arith, nat_tests, part x))

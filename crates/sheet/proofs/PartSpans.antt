@@ -53,7 +53,7 @@ module _ (s : Outline) (room : (a b : ℕ) → s.block a b ≡ true → b < 128)
       grind (arith, nat_tests, p.lacks)
 
   -- the last positions at which such blocks from a on are looked for
-  module _ (a : ℕ) (first : low ≤ a) (last : a ≤ i) (looked : ℕ → Bool) (is : (b : ℕ) → looked b ≡ (s.block a b && ((ltb b high && ltb b 128) && not (ltb b i && ltb b 128)))) where
+  module _ (a : ℕ) (first : low ≤ a) (last : a ≤ i) (looked : ℕ → Bool) (is : (b : ℕ) → looked b ≡ (s.block a b && (leb i b && ltb b high && ltb b 128))) where
     looked_parts : (b : ℕ) → looked b ≡ true → Parts s i j a b
     looked_parts b h =
         let e = is b in

@@ -1,11 +1,19 @@
 -- The laws of sets in rows.
-use Rattle.std.proofs.Common.{◌≡◌, ℕ, zero, suc, ◌+◌, ◌*◌, ◌<◌, ◌≤◌, Bool, true, false, ◌&&◌, cond, eqb, ltb, List, [], ◌∷◌, length, get_or, set, replicate, sym, refl, ap, ◌∙◌, subst, ⊎_elim, arith}
+use Rattle.std.proofs.Common.{◌≡◌, ℕ, zero, suc, ◌+◌, ◌*◌, ◌<◌, ◌≤◌, Bool, true, false, cond, eqb, List, [], ◌∷◌, length, get_or, set, replicate, sym, refl, ap, ◌∙◌, ⊎_elim, arith}
+use Rattle.std.proofs.lemmas.List.{get_or-set_other, get_or-set_same}
 use Rattle.std.proofs.lemmas.Bool.{cases_eq, cases_lt, false≢true}
 use Rattle.std.proofs.lemmas.Bool.Decides.{nat_tests}
 use Rattle.sets.proofs.Members.{member_lt}
 use Rattle.sets.specs.Member.{member}
 use Rattle.sets.specs.declared.bits.BitSet.{BitSet}
 use Rattle.sheet.specs.Rows.{in_row}
+
+-- one more entry that is made
+pub entry_made : {T : Type 0} (Gives : ℕ → T → Type 0) (entries : List T) (i : ℕ) (x : T) → i < length entries → ((k : ℕ) → k < i → (y : T) × Gives k y × ((d : T) → get_or entries k d ≡ y)) → Gives i x → (k : ℕ) → k < i + 1 → (y : T) × Gives k y × ((d : T) → get_or (set entries i x) k d ≡ y)
+entry_made Gives entries i x l before here k m = ⊎_elim
+    (λ e. rw e (x, here, λ d. get_or-set_same entries i x d l))
+    (λ n. let b = before k (omega arith) in (b.0, b.1, λ d. get_or-set_other entries i k x d n ∙ b.2 d))
+    (cases_eq k i)
 
 module _ {W : ℕ} where
   pub row-get_or : (rows : List (BitSet W)) (i : ℕ) (d : BitSet W) → i < length rows → (j : ℕ) → in_row rows i j ≡ member (get_or rows i d).words j
@@ -45,12 +53,10 @@ module _ {W : ℕ} where
   row_lt (r ∷ rows) zero j e = member_lt r j e
   row_lt (r ∷ rows) (suc i) j e = row_lt rows i j e
 
-  -- one more row that is made
-  pub row_made : (Gives : ℕ → BitSet W → Type 0) (rows : List (BitSet W)) (i : ℕ) (r : BitSet W) → i < length rows → ((k : ℕ) → k < i → (s : BitSet W) × Gives k s × ((j : ℕ) → in_row rows k j ≡ member s.words j)) → Gives i r → (k : ℕ) → k < i + 1 → (s : BitSet W) × Gives k s × ((j : ℕ) → in_row (set rows i r) k j ≡ member s.words j)
-  row_made Gives rows i r l before here k m = ⊎_elim
-      (λ e. rw e (r, here, row-set_same rows i r l))
-      (λ n. let b = before k (omega arith) in (b.0, b.1, λ j. row-set_other rows i k r n j ∙ b.2 j))
-      (cases_eq k i)
+  -- the rows of entries that are made
+  pub rows_made : (Gives : ℕ → BitSet W → Type 0) (rows : List (BitSet W)) (n : ℕ) → length rows ≡ n → ((i : ℕ) → i < n → (s : BitSet W) × Gives i s × ((d : BitSet W) → get_or rows i d ≡ s)) → (i : ℕ) → i < n → (s : BitSet W) × Gives i s × ((j : ℕ) → in_row rows i j ≡ member s.words j)
+  rows_made Gives rows n size made i l =
+      let m = made i l in (m.0, m.1, λ j. row-get_or rows i m.0 (omega arith) j ∙ ap (λ (s : BitSet W). member s.words j) (m.2 m.0))
 
   -- rows that are made as a test says, where it wants nothing past them
   pub made_is : (Gives : ℕ → BitSet W → Type 0) (test : ℕ → ℕ → Bool) (rows : List (BitSet W)) (n : ℕ) → ((i : ℕ) → i < n → (s : BitSet W) × Gives i s × ((j : ℕ) → in_row rows i j ≡ member s.words j)) → ((i j : ℕ) → n ≤ i → in_row rows i j ≡ false) → ((i : ℕ) (s : BitSet W) → i < n → Gives i s → (j : ℕ) → member s.words j ≡ test i j) → ((i j : ℕ) → n ≤ i → test i j ≡ false) → (i j : ℕ) → in_row rows i j ≡ test i j
@@ -58,6 +64,9 @@ module _ {W : ℕ} where
       (λ l. let m = made i l in m.2 j ∙ says i m.0 l m.1 j)
       (λ l. past i j l ∙ sym (none i j l))
       (cases_lt i n)
+
+  pub filled_is : (Gives : ℕ → BitSet W → Type 0) (test : ℕ → ℕ → Bool) (rows : List (BitSet W)) (n : ℕ) → length rows ≡ n → ((i : ℕ) → i < n → (s : BitSet W) × Gives i s × ((d : BitSet W) → get_or rows i d ≡ s)) → ((i : ℕ) (s : BitSet W) → i < n → Gives i s → (j : ℕ) → member s.words j ≡ test i j) → ((i j : ℕ) → n ≤ i → test i j ≡ false) → (i j : ℕ) → in_row rows i j ≡ test i j
+  filled_is Gives test rows n size made = made_is Gives test rows n (rows_made Gives rows n size made) (λ i j l. row_past rows i (omega arith) j)
 
   -- a row is written, and the others stay
   pub row_set : (rows : List (BitSet W)) (i : ℕ) (r : BitSet W) → i < length rows → (k j : ℕ) → in_row (set rows i r) k j ≡ cond (eqb k i) (member r.words j) (in_row rows k j)

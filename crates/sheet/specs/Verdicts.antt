@@ -51,6 +51,11 @@ pub record FirstUnknown (task : Task) (numbers : List ℕ) (number : ℕ) : Type
   pub lacking : length (contents task.actions) ≤ number
   pub first : (k : ℕ) → k < at → Known task (slice_index numbers k)
 
+-- passes numbers all of which the task has, and refuses the first that it lacks
+abbrev pub ChecksActions : Task → List ℕ → Result (Unit {0}) SheetFault → Type 0
+ChecksActions task numbers r =
+    MatchResult r (λ _. AllKnown task numbers) (λ fault. (number : ℕ) × (fault ≡ UnknownAction number) × FirstUnknown task numbers number)
+
 -- the lowest place that is wanting anything, and the lowest fact that it is wanting
 pub record LowestWanting (s : Outline) (e : Effects) (place fact : ℕ) : Type 0 where
   pub wanting : Wanting s e place fact

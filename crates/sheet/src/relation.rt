@@ -4,7 +4,7 @@ ghost use Rattle.sets.specs.Member.{member};
 ghost use Rattle.sets.specs.declared.bits.BitSet.{BitSet as Set};
 ghost use Rattle.sheet.specs.Rows.{in_row};
 
-use crate::rows::row;
+use crate::rows::{filled, row};
 use sets::bits::BitSet;
 
 // Row i has the positions that i is paired with.
@@ -23,17 +23,15 @@ impl Relation {
         }
     }
 
-    // The relation whose row i is `row(i)`. By index: with `array::from_fn` the promise stayed open.
+    // The relation whose row i is `row(i)`.
     pub fn by_rows<F: Fn(usize) -> BitSet<2>>(row: F) -> Self
         requires { (i : ℕ) → i < 128 → F.pre row i }
         ensures rows { (i : ℕ) → i < 128 → (set : Set 2) × F.post row i set × ((j : ℕ) → in_row result.rows i j ≡ member set.words j) }
         ensures past { (i j : ℕ) → 128 ≤ i → in_row result.rows i j ≡ false }
     {
-        let mut rows = [BitSet::empty(); 128];
-        for i in 0..128 {
-            rows[i] = row(i);
+        Relation {
+            rows: filled(BitSet::empty(), row),
         }
-        Relation { rows }
     }
 
     // What `i` is paired with: nothing where it is no position.

@@ -1,5 +1,5 @@
-// Sets in rows.
-ghost use Rattle.std.specs.Prelude.{◌≡◌, ℕ, ◌<◌, true, false, MatchOption};
+// Arrays of 128 entries, and sets in rows.
+ghost use Rattle.std.specs.Prelude.{◌≡◌, ℕ, ◌<◌, length, slice_index_or};
 ghost use Rattle.sets.specs.Member.{member};
 ghost use Rattle.sheet.specs.Rows.{in_row};
 
@@ -16,19 +16,15 @@ pub fn row<const W: usize>(rows: &[BitSet<W>], i: usize) -> BitSet<W>
     }
 }
 
-// The highest member. With `find` over the same range the promise stayed open.
-pub fn highest(set: &BitSet<2>) -> Option<usize>
-    ensures { MatchOption result
-        ((i : ℕ) → member set.now.words i ≡ false)
-        (λ i. (member set.now.words i ≡ true) × ((j : ℕ) → i < j → member set.now.words j ≡ false)) }
+// Entry i is what `entry(i)` answers; `fill` stands in an entry until then. With `array::from_fn` the promise stayed open.
+pub(crate) fn filled<T: Copy, F: Fn(usize) -> T>(fill: T, entry: F) -> [T; 128]
+    requires { (i : ℕ) → i < 128 → F.pre entry i }
+    ensures size { length result ≡ 128 }
+    ensures entries { (i : ℕ) → i < 128 → (x : T) × F.post entry i x × ((d : T) → slice_index_or result i d ≡ x) }
 {
-    if set.is_empty() {
-        return None;
+    let mut entries = [fill; 128];
+    for (i, place) in entries.iter_mut().enumerate() {
+        *place = entry(i);
     }
-    for i in (0..128).rev() {
-        if set.has(i) {
-            return Some(i);
-        }
-    }
-    None
+    entries
 }

@@ -7,7 +7,7 @@ ghost use Rattle.sheet.specs.Verdicts.{AllKnown, FirstUnknown, Lays, in_a_row};
 ghost use Rattle.sheet.specs.declared.fault.SheetFault.TheVariants.{UnknownAction};
 
 use super::Sheet;
-use crate::checking::check;
+use crate::checking::{check, check_actions};
 use crate::fault::SheetFault;
 use crate::relation::Relation;
 use sets::bits::BitSet;
@@ -22,7 +22,7 @@ pub fn lay(task: &Task, plan: &[u32]) -> Result<Sheet, SheetFault>
         return Err(SheetFault::TooLong);
     }
     let steps = known_steps(task, plan)?;
-    let sheet = row_of(steps);
+    let sheet = in_order(steps);
     check(task, &sheet)?;
     Ok(sheet)
 }
@@ -34,14 +34,8 @@ fn known_steps(task: &Task, plan: &[u32]) -> Result<ArrayVec<u8, 128>, SheetFaul
         (λ steps. (contents steps ≡ plan.now) × AllKnown task.now plan.now)
         (λ fault. ((number : ℕ) × (fault ≡ UnknownAction number) × FirstUnknown task.now plan.now number)) }
 {
-    let mut steps = ArrayVec::new(0);
-    for number in plan {
-        if *number as usize >= task.actions.len() {
-            return Err(SheetFault::UnknownAction(*number));
-        }
-        let _ = steps.push(*number as u8);
-    }
-    Ok(steps)
+    check_actions(task, plan.iter().copied())?;
+    Ok(ArrayVec::collect(0, plan.iter().map(|number| *number as u8)))
 }
 
 // Each of `n` positions tied before all later ones.
@@ -49,12 +43,11 @@ fn all_ties(n: usize) -> Relation
     requires { n ≤ 128 }
     ensures { (i j : ℕ) → in_row result.rows i j ≡ (nat_lt i j && nat_lt j n) }
 {
-    let positions = BitSet::below(n);
-    Relation::by_rows(|i| positions.minus(&BitSet::below(i + 1)))
+    Relation::by_rows(|i| BitSet::range(i + 1, n))
 }
 
 // Each step tied before all later ones.
-fn row_of(steps: ArrayVec<u8, 128>) -> Sheet
+fn in_order(steps: ArrayVec<u8, 128>) -> Sheet
     requires { (i : ℕ) → slice_index (contents steps) i < 128 }
     ensures { (result.steps ≡ steps) × (outline result ≡ in_a_row (length (contents steps))) }
 {

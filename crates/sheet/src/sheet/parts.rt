@@ -6,7 +6,6 @@ ghost use Rattle.sheet.specs.Masks.{AreForced, IsPart};
 ghost use Rattle.sheet.specs.Sheets.{outline};
 
 use super::Sheet;
-use crate::rows::highest;
 use sets::bits::BitSet;
 
 impl Sheet {
@@ -32,9 +31,9 @@ impl Sheet {
         ensures room { result.1 < 128 }
     {
         let (low, high) = limits(i, j);
-        let reaching = BitSet::below(high).minus(&BitSet::below(i));
+        let reaching = BitSet::range(i, high);
         for a in low..i + 1 {
-            if let Some(b) = highest(&self.blocks.row(a).intersection(&reaching)) {
+            if let Some(b) = self.blocks.row(a).intersection(&reaching).highest() {
                 return (a, b);
             }
         }
@@ -49,7 +48,7 @@ impl Sheet {
             return BitSet::empty();
         }
         let (first, last) = self.span(i, j);
-        BitSet::below(last + 1).minus(&BitSet::below(first))
+        BitSet::range(first, last + 1)
     }
 
     // The positions tied before `p`: all of them for the place after the last step.

@@ -14,8 +14,8 @@ use Rattle.sheet.specs.Verdicts.{effects}
 pub returns-then-is_empty : goal.returns-then-is_empty
 returns-then-is_empty c f =
     let setting = c.args.self.now in
-    let s = outline setting.sheet.now in
-    let e = effects setting.task.now setting.sheet.now in
+    let s = outline setting.effects.sheet.now in
+    let e = effects setting.effects.task.now setting.effects.sheet.now in
     let d = c.args.d in
     let p = c.args.p in
     let needed = member c.args.needs.now.words f in
@@ -30,8 +30,8 @@ returns-then-is_empty c f =
 pub returns : goal.returns
 returns c f =
     let setting = c.args.self.now in
-    let s = outline setting.sheet.now in
-    let e = effects setting.task.now setting.sheet.now in
+    let s = outline setting.effects.sheet.now in
+    let e = effects setting.effects.task.now setting.effects.sheet.now in
     let d = c.args.d in
     let p = c.args.p in
     let needed = member c.args.needs.now.words f in

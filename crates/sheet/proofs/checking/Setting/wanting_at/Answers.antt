@@ -11,8 +11,8 @@ use Rattle.sheet.specs.Verdicts.{effects}
 pub loop-d-init : goal.loop-d-init
 loop-d-init c f =
     let setting = c.args.self.now in
-    let s = outline setting.sheet.now in
-    let e = effects setting.task.now setting.sheet.now in
+    let s = outline setting.effects.sheet.now in
+    let e = effects setting.effects.task.now setting.effects.sheet.now in
     let adds = in_row setting.adds in
     let ahead = member c.ahead-ahead.result.words in
     let brought : some_below s.size (λ x. adds x f && ahead x) ≡ some_below s.size (λ x. e.adds x f && leads s x c.args.p) =
@@ -23,8 +23,8 @@ loop-d-init c f =
 pub loop-d-preserved : goal.loop-d-preserved
 loop-d-preserved c f =
     let setting = c.args.self.now in
-    let s = outline setting.sheet.now in
-    let e = effects setting.task.now setting.sheet.now in
+    let s = outline setting.effects.sheet.now in
+    let e = effects setting.effects.task.now setting.effects.sheet.now in
     let p = c.args.p in
     let d = c.loop-d.d in
     cc (c.union-wanting.ensures f, c.loop-d.invariant f, c.lost.ensures f, c.needed-needs.ensures f, below_more (taken_by s e p f) d, more_wanting (needed s e p f) (never_put s e p f) (some_below d (taken_by s e p f)) (taken_by s e p f d))
@@ -32,8 +32,8 @@ loop-d-preserved c f =
 pub returns : goal.returns
 returns c f =
     let setting = c.args.self.now in
-    let s = outline setting.sheet.now in
-    let e = effects setting.task.now setting.sheet.now in
+    let s = outline setting.effects.sheet.now in
+    let e = effects setting.effects.task.now setting.effects.sheet.now in
     let p = c.args.p in
     let all : c.loop-d.d ≡ s.size = omega (arith, c.loop-d-test.false, c.steps-n.ensures) in
     c.loop-d.invariant f ∙ ap (λ (n : ℕ). needed s e p f && (never_put s e p f || some_below n (taken_by s e p f))) all

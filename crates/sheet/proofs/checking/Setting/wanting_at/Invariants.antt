@@ -8,6 +8,6 @@ use Rattle.sheet.specs.Verdicts.{effects}
 
 abbrev pub invariant-loop-d : goal.invariant-loop-d
 invariant-loop-d l =
-    let s = outline l.self.sheet.now in
-    let e = effects l.self.task.now l.self.sheet.now in
+    let s = outline l.self.effects.sheet.now in
+    let e = effects l.self.effects.task.now l.self.effects.sheet.now in
     (f : ℕ) → member l.wanting.words f ≡ (needed s e l.p f && (never_put s e l.p f || some_below l.d (taken_by s e l.p f)))

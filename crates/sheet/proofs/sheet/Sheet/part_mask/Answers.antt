@@ -10,4 +10,4 @@ returns-then-i-steps c x =
 
 pub returns : goal.returns
 returns c x =
-    cc (c.minus.ensures x, c.below.ensures x, c.below-2.ensures x, part_between (outline c.args.self.now) (sheet_rules c.args.self.now) c.args.i c.args.j _ _ (omega (arith, c.if-i-steps.false)) c.span-first.ensures.part c.span-first.ensures.room x)
+    cc (c.range.ensures x, part_between (outline c.args.self.now) (sheet_rules c.args.self.now) c.args.i c.args.j _ _ (omega (arith, c.if-i-steps.false)) c.span-first.ensures.part c.span-first.ensures.room x)

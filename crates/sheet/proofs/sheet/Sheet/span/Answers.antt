@@ -17,7 +17,7 @@ returns-in-Some c =
     record {
       part = part_found (outline c.args.self.now) (row_lt c.args.self.now.blocks.rows) c.args.i c.args.j _ _ c.limits-low.ensures
           c.loop-a.a c.loop-a.auto.a (omega arith) (member c.intersection.result.words)
-          (λ b. cc (c.intersection.ensures b, c.row.ensures b, c.minus-reaching.ensures b, c.below.ensures b, c.below-2.ensures b))
+          (λ b. cc (c.intersection.ensures b, c.row.ensures b, c.range-reaching.ensures b))
           (sheet_rules c.args.self.now) c.loop-a.invariant c.in-Some.b found.0 found.1;
       room = member_lt c.intersection.result c.in-Some.b found.0;
     }
@@ -26,7 +26,7 @@ pub loop-a-preserved : goal.loop-a-preserved
 loop-a-preserved c =
     none_more (outline c.args.self.now) (row_lt c.args.self.now.blocks.rows) c.args.i c.args.j _ _ c.limits-low.ensures
     c.loop-a.a c.loop-a.auto.a (omega arith) (member c.intersection.result.words)
-    (λ b. cc (c.intersection.ensures b, c.row.ensures b, c.minus-reaching.ensures b, c.below.ensures b, c.below-2.ensures b))
+    (λ b. cc (c.intersection.ensures b, c.row.ensures b, c.range-reaching.ensures b))
     c.loop-a.invariant c.in_default.ensures
 
 pub returns : goal.returns

@@ -1,7 +1,7 @@
 use Rattle.std.proofs.Common.{refl, arith}
 use Rattle.sets.proofs.Held.{contents_fit}
 use Rattle.sheet.proofs.Laid.{laid_outline, laid_rules}
-use Rattle.sheet.proofs.sheet.laying.row_of.Goals as goal
+use Rattle.sheet.proofs.sheet.laying.in_order.Goals as goal
 
 pub all_ties-requires : goal.all_ties-requires
 all_ties-requires c = omega (arith, c.len.ensures, contents_fit c.args.steps)
