@@ -1,4 +1,4 @@
-// A run of positions.
+// A run of positions of a sheet.
 ghost use Rattle.std.specs.Prelude.{◌≡◌, ℕ, ◌<◌, ◌&&◌, MatchOption, nat_le, nat_lt};
 ghost use Rattle.shaping.specs.Answers.{InOrder, NotInOrder, crosses};
 ghost use Rattle.orders.specs.Check.{inside};
@@ -10,36 +10,41 @@ use sheet::Sheet;
 
 // The positions `first` to `last`, two or more.
 #[derive(Clone, Copy)]
-pub(crate) struct Run {
+pub(crate) struct Run<'s> {
+    pub(crate) sheet: &'s Sheet,
     pub(crate) first: usize,
     pub(crate) last: usize,
-    ghost several: { first < last },
+    ghost order: { InOrder (outline sheet.now) first last },
     ghost room: { last < 128 },
 }
 
-impl Run {
+impl<'s> Run<'s> {
     // From `a` to `b`; None unless they are positions of the sheet in that order.
-    pub(crate) fn of(sheet: &Sheet, a: usize, b: usize) -> Option<Run>
+    pub(crate) fn of(sheet: &'s Sheet, a: usize, b: usize) -> Option<Run<'s>>
         ensures { MatchOption result
             (NotInOrder (outline sheet.now) a b)
-            (λ run. (run.first ≡ a) × (run.last ≡ b) × InOrder (outline sheet.now) a b) }
+            (λ run. (run.sheet.now ≡ sheet.now) × (run.first ≡ a) × (run.last ≡ b) × InOrder (outline sheet.now) a b) }
     {
         if a < b && b < sheet.steps() {
-            Some(Run { first: a, last: b })
+            Some(Run {
+                sheet,
+                first: a,
+                last: b,
+            })
         } else {
             None
         }
     }
 
-    pub(crate) fn positions(self) -> BitSet<2>
-        ensures { (x : ℕ) → member result.words x ≡ inside self.first self.last x }
+    pub(crate) fn positions(&self) -> BitSet<2>
+        ensures { (x : ℕ) → member result.words x ≡ inside self.now.first self.now.last x }
     {
         span(self.first, self.last + 1)
     }
 
     // The last positions with which a run from `c` on crosses this one.
-    pub(crate) fn crossing_ends(self, c: usize) -> BitSet<2>
-        ensures { (d : ℕ) → member result.words d ≡ (crosses self.first self.last c d && nat_lt d 128) }
+    pub(crate) fn crossing_ends(&self, c: usize) -> BitSet<2>
+        ensures { (d : ℕ) → member result.words d ≡ (crosses self.now.first self.now.last c d && nat_lt d 128) }
     {
         if c < self.first {
             span(self.first, self.last)

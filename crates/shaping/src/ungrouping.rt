@@ -10,17 +10,19 @@ use crate::run::Run;
 use sheet::Sheet;
 use task::Task;
 
-// The sheet without the run as a block.
-fn ungrouped_sheet(sheet: &Sheet, run: Run) -> Sheet
-    ensures steps { actions result ≡ actions sheet.now }
-    ensures order { outline result ≡ ungrouped (outline sheet.now) run.first run.last }
-{
-    let mut ends = sheet.blocks.row(run.first);
-    ends.remove(run.last);
-    Sheet {
-        steps: sheet.steps,
-        behind: sheet.behind,
-        blocks: sheet.blocks.with_row(run.first, &ends),
+impl Run<'_> {
+    // The sheet without the run as a block.
+    fn ungrouped_sheet(&self) -> Sheet
+        ensures steps { actions result ≡ actions self.now.sheet.now }
+        ensures order { outline result ≡ ungrouped (outline self.now.sheet.now) self.now.first self.now.last }
+    {
+        let mut ends = self.sheet.blocks.row(self.first);
+        ends.remove(self.last);
+        Sheet {
+            steps: self.sheet.steps,
+            behind: self.sheet.behind,
+            blocks: self.sheet.blocks.with_row(self.first, &ends),
+        }
     }
 }
 
@@ -33,6 +35,6 @@ pub fn ungroup(sheet: &mut Sheet, task: &Task, a: usize, b: usize) -> Result<(),
     if !sheet.is_block(a, b) {
         return Err(EditFault::Block);
     }
-    let asked = ungrouped_sheet(sheet, run);
+    let asked = run.ungrouped_sheet();
     adopt(sheet, task, asked)
 }

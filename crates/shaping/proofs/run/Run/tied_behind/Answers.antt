@@ -1,16 +1,16 @@
 use Rattle.std.proofs.Common.{◌≡◌, ◌+◌, ◌≤◌, ◌&&◌, leb, add-one, sym, ◌∙◌, rules, arith}
 use Rattle.shaping.proofs.GroupLaws.{none_ahead, tied_behind_more}
 use Rattle.shaping.proofs.RangeLaws.{fold_from_Range}
-use Rattle.shaping.proofs.grouping.tied_behind_run.Goals as goal
+use Rattle.shaping.proofs.run.Run.tied_behind.Goals as goal
 use Rattle.orders.specs.Check.{some_below}
 use Rattle.sets.specs.Member.{member}
 use Rattle.sheet.specs.Sheets.{outline}
 
 pub returns : goal.returns
 returns c x =
-    let s = outline c.args.sheet.now in
-    let a = c.args.run.first in
-    let all : member c.fold.result.words x ≡ some_below (c.args.run.last + 1) (λ y. leb a y && s.tied y x) =
+    let s = outline c.args.self.now.sheet.now in
+    let a = c.args.self.now.first in
+    let all : member c.fold.result.words x ≡ some_below (c.args.self.now.last + 1) (λ y. leb a y && s.tied y x) =
     (fold_from_Range (λ i set. (a ≤ i) × (member set.words x ≡ some_below i (λ y. leb a y && s.tied y x))) _
     (λ i old new q (l, e) k. (search rules, (omega arith, tied_behind_more s a x i _ _ l e (search rules))))
     _ _ _ c.fold.ensures.ran (omega arith)

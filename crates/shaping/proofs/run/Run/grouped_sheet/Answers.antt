@@ -1,7 +1,7 @@
 use Rattle.std.proofs.Common.{◌≡◌, ℕ, ◌<◌, ◌&&◌, ◌||◌, cond, eqb, ltb, List, refl, arith}
 use Rattle.std.proofs.lemmas.Bool.Decides.{nat_tests}
 use Rattle.shaping.proofs.Outlines.{outlines_same, rules_kept}
-use Rattle.shaping.proofs.grouping.grouped_sheet.Goals as goal
+use Rattle.shaping.proofs.run.Run.grouped_sheet.Goals as goal
 use Rattle.orders.proofs.EditGroup.{group_keeps_rules}
 use Rattle.orders.specs.Edits.{same_run}
 use Rattle.sets.specs.Member.{member}
@@ -20,9 +20,9 @@ one_more a b l m old new ends put row with written k d =
 
 pub invariant_of-result : goal.invariant_of-result
 invariant_of-result c =
-    let rules = group_keeps_rules (outline c.args.sheet.now) (sheet_rules c.args.sheet.now) c.args.run.first c.args.run.last c.requires in
-    let blocks = one_more c.args.run.first c.args.run.last (omega arith) (omega arith) _ _ _ _ c.row-ends.ensures c.insert.ensures.members c.with_row.ensures in
-    record { numbers = c.args.sheet.now.numbers; rules = rules_kept _ _ (outlines_same _ _ refl c.joined_ties.ensures blocks) rules }
+    let rules = group_keeps_rules (outline c.args.self.now.sheet.now) (sheet_rules c.args.self.now.sheet.now) c.args.self.now.first c.args.self.now.last c.requires in
+    let blocks = one_more c.args.self.now.first c.args.self.now.last (omega arith) (omega arith) _ _ _ _ c.row-ends.ensures c.insert.ensures.members c.with_row.ensures in
+    record { numbers = c.args.self.now.sheet.now.numbers; rules = rules_kept _ _ (outlines_same _ _ refl c.joined_ties.ensures blocks) rules }
 
 pub returns-clause-order : goal.returns-clause-order
-returns-clause-order c = outlines_same _ _ refl c.joined_ties.ensures (one_more c.args.run.first c.args.run.last (omega arith) (omega arith) _ _ _ _ c.row-ends.ensures c.insert.ensures.members c.with_row.ensures)
+returns-clause-order c = outlines_same _ _ refl c.joined_ties.ensures (one_more c.args.self.now.first c.args.self.now.last (omega arith) (omega arith) _ _ _ _ c.row-ends.ensures c.insert.ensures.members c.with_row.ensures)
