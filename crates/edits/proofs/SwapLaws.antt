@@ -5,7 +5,7 @@ use Rattle.std.proofs.lemmas.Bool.Decides.{nat_tests}
 use Rattle.orders.proofs.EditParts.{neighbours_meet}
 use Rattle.orders.proofs.EditRuns.{is_inside}
 use Rattle.orders.proofs.Parts.{shared_together}
-use Rattle.orders.specs.Check.{inside}
+use Rattle.orders.specs.Check.{inside, together}
 use Rattle.orders.specs.Edits.{Neighbours, comes, covers, swapped}
 use Rattle.orders.specs.Sheets.{Inside, Outline, Rules}
 use Rattle.sets.proofs.Members.{member_room}
@@ -32,17 +32,18 @@ module _ (s : Outline) (rules : Rules s) where
   own i j first last other part = is_inside first last i (sym (part i) ∙ shared_together s rules i i j (inl (refl, other)))
 
   -- the parts that are found are those that meet
-  pub neighbours : (a k b c d : ℕ) → (k ≡ 0 → ⊥) → Found s (k - 1) k a c → Found s k (k - 1) d b → Neighbours s a k b
-  neighbours a k b c d some (_, position, _, left) (_, _, _, right) =
-      let later : 0 < k = omega arith in
-      let (a', b', meet) = neighbours_meet s rules k later position in
-      let (e, f) = same_runs a c a' (k - 1) (k - 1) (λ x. sym (left x) ∙ meet.first x) (own (k - 1) k a c (λ e. omega arith) left) in
-      let (g, h) = same_runs d b k b' k (λ x. sym (right x) ∙ meet.second x) (own k (k - 1) d b (λ e. omega arith) right) in
+  pub neighbours : (a i k b c d : ℕ) → 1 ≤ k → i ≡ k - 1 → Found s i k a c → Found s k i d b → Neighbours s a k b
+  neighbours a i k b c d later is (_, position, _, left) (_, _, _, right) =
+      let (a', b', meet) = neighbours_meet s rules k (omega arith) position in
+      let at : (x : ℕ) → together s x (k - 1) k ≡ inside a c x = rw (← is) left in
+      let behind : (x : ℕ) → together s x k (k - 1) ≡ inside d b x = rw (← is) right in
+      let (e, f) = same_runs a c a' (k - 1) (k - 1) (λ x. sym (at x) ∙ meet.first x) (own (k - 1) k a c (λ e. omega arith) at) in
+      let (g, h) = same_runs d b k b' k (λ x. sym (behind x) ∙ meet.second x) (own k (k - 1) d b (λ e. omega arith) behind) in
       record {
-        later = later;
+        later = omega arith;
         position = position;
-        first = λ x. left x ∙ ap (λ v. inside a v x) f;
-        second = λ x. right x ∙ ap (λ v. inside v b x) g;
+        first = λ x. at x ∙ ap (λ v. inside a v x) f;
+        second = λ x. behind x ∙ ap (λ v. inside v b x) g;
       }
 
 module _ (a k b : ℕ) (left : a < k) (right : k ≤ b) (x : ℕ) where

@@ -9,8 +9,8 @@ use Rattle.sheet.specs.Sheets.{actions}
 pub returns : goal.returns
 returns c =
     let xs = c.actions-steps.result.now in
-    let runs = c.args.self in
-    laid_turned (actions c.args.sheet.now) runs.first runs.second runs.last runs.ahead runs.behind c.requires (contents_fit c.args.sheet.now.steps) xs c.actions-steps.ensures (contents c.collect.result) (c.collect.ensures _
+    let runs = c.args.self.now in
+    laid_turned (actions c.args.self.now.sheet.now) runs.first runs.second runs.last runs.ahead runs.behind runs.positions (contents_fit c.args.self.now.sheet.now.steps) xs c.actions-steps.ensures (contents c.collect.result) (c.collect.ensures _
     (YieldsList-from_copied (YieldsList-at c.copied.ensures.source (YieldsList-from_chain
     (YieldsList-at c.chain-2.ensures.first (YieldsList-from_chain
     (YieldsList-at c.chain.ensures.first (YieldsList-from_slice _ c.iter-2.ensures.rest))

@@ -9,12 +9,7 @@ use Rattle.sheet.specs.Sheets.{outline}
 pub invariant_of-result : goal.invariant_of-result
 invariant_of-result c =
     let rules = sheet_rules c.args.sheet.now in
-    let parts = neighbours (outline c.args.sheet.now) rules _ _ _ _ _ c.if-k-eq0.false c.in_ok-first.ensures c.in_ok-last.ensures in
+    let (some, is) = c.in_ok-before.ensures in
+    let parts = neighbours (outline c.args.sheet.now) rules _ _ _ _ _ _ some is c.in_ok-first.ensures c.in_ok-last.ensures in
     let b = bounds (outline c.args.sheet.now) rules _ _ _ parts in
-    record { ahead = b.left; behind = b.right; room = omega (arith, b.size, contents_fit c.args.sheet.now.steps) }
-
-pub returns : goal.returns
-returns c = (
-  refl,
-  neighbours (outline c.args.sheet.now) (sheet_rules c.args.sheet.now) _ _ _ _ _ c.if-k-eq0.false c.in_ok-first.ensures c.in_ok-last.ensures,
-)
+    record { parts = parts; ahead = b.left; behind = b.right; positions = b.size; room = omega (arith, b.size, contents_fit c.args.sheet.now.steps) }
