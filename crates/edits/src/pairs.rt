@@ -7,7 +7,7 @@ use sets::bits::BitSet;
 use sheet::Relation;
 
 // The positions that pass with `x`.
-fn row_of<F: Fn(usize, usize) -> bool>(passes: &F, x: usize) -> BitSet<2>
+fn paired_with<F: Fn(usize, usize) -> bool>(passes: &F, x: usize) -> BitSet<2>
     requires { (y : ℕ) → y < 128 → F.pre passes.now x y }
     ensures test { (y : ℕ) → y < 128 → (passed : Bool) × F.post passes.now x y passed × (member result.words y ≡ passed) }
 {
@@ -30,6 +30,6 @@ pub fn rows_of<F: Fn(usize, usize) -> bool>(passes: F) -> Relation
         |x: usize| -> BitSet<2>
             requires { (y : ℕ) → y < 128 → F.pre passes x y }
             ensures { (y : ℕ) → y < 128 → (passed : Bool) × F.post passes x y passed × (member result.words y ≡ passed) }
-        { row_of(&passes, x) },
+        { paired_with(&passes, x) },
     )
 }

@@ -49,8 +49,8 @@ impl<'s> Offer<'s> {
         self.first <= x && x < self.end()
     }
 
-    // The position whose ties `x` takes over.
-    fn model(&self, x: usize) -> usize
+    // The position of the sheet that `x` stands for, whose ties it takes over.
+    fn stands_for(&self, x: usize) -> usize
         requires { x < 128 }
         ensures { result ≡ stood self.now.first self.now.last (length self.now.list.now) x }
     {
@@ -80,7 +80,7 @@ impl<'s> Offer<'s> {
         if self.brings(x) && self.brings(y) {
             return x < y;
         }
-        self.sheet.is_tied(self.model(x), self.model(y))
+        self.sheet.is_tied(self.stands_for(x), self.stands_for(y))
     }
 
     // Whether `c` to `d` is a block of the sheet asked for.
@@ -92,7 +92,7 @@ impl<'s> Offer<'s> {
             return self.list.len() >= 2;
         }
         let end = if d < self.first { d } else { self.before(d) };
-        self.spares(c, d) && self.sheet.is_block(self.model(c), end)
+        self.spares(c, d) && self.sheet.is_block(self.stands_for(c), end)
     }
 
     // The steps of the sheet asked for.

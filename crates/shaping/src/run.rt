@@ -23,7 +23,7 @@ impl<'s> Run<'s> {
     pub(crate) fn of(sheet: &'s Sheet, a: usize, b: usize) -> Option<Run<'s>>
         ensures { MatchOption result
             (NotInOrder (outline sheet.now) a b)
-            (λ run. (run.sheet.now ≡ sheet.now) × (run.first ≡ a) × (run.last ≡ b) × InOrder (outline sheet.now) a b) }
+            (λ run. (run.sheet.now ≡ sheet.now) × (run.first ≡ a) × (run.last ≡ b)) }
     {
         if a < b && b < sheet.steps() {
             Some(Run {
