@@ -1,4 +1,4 @@
-use Rattle.std.proofs.Common.{◌≡◌, ◌-◌, false, sym, ap, ◌∙◌, subst, rules}
+use Rattle.std.proofs.Common.{◌≡◌, ◌-◌, false, sym, subst, rules}
 use Rattle.edits.proofs.SwapSheets.{swapped_is}
 use Rattle.edits.proofs.swapping.swap.Goals as goal
 use Rattle.edits.specs.Swaps.{IsSwapped}

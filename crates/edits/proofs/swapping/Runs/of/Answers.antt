@@ -1,4 +1,4 @@
-use Rattle.std.proofs.Common.{refl, arith}
+use Rattle.std.proofs.Common.{arith}
 use Rattle.edits.proofs.SwapLaws.{neighbours}
 use Rattle.edits.proofs.swapping.Runs.of.Goals as goal
 use Rattle.orders.proofs.EditSwap.{bounds}
