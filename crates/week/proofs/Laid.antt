@@ -1,9 +1,10 @@
 -- The steps of a loaded plan do what the book writes of their actions.
-use Rattle.std.proofs.Common.{◌≡◌, ℕ, zero, suc, ◌<◌, ◌≤◌, Bool, true, ◌⊎◌, List, [], ◌∷◌, length, Some, None, Ok, Err, Option, Result, sym, refl, ap, ◌∙◌, subst, inl, inr, is_ok, arith}
+use Rattle.std.proofs.Common.{◌≡◌, ℕ, zero, suc, ◌<◌, ◌≤◌, Bool, true, ◌⊎◌, List, [], ◌∷◌, length, Some, None, Ok, Err, Option, Result, refl, ap, ◌∙◌, subst, inl, inr, is_ok, arith, MatchResult}
 use Rattle.std.proofs.lemmas.Bool.{false≢true}
 use mathlib.Core.Path.{fun_ext}
 use Rattle.std.specs.List.{slice_get}
 use Rattle.std.specs.Option.{option_flatten, option_map}
+use Rattle.std.specs.Result.{IsErrAnd}
 use Rattle.std.proofs.ByRecursion.{All-get_or}
 use Rattle.sets.specs.Contents.{contents}
 use Rattle.sets.specs.declared.bits.BitSet.{BitSet}
@@ -12,12 +13,13 @@ use Rattle.task.specs.declared.actions.Action.{Action}
 use Rattle.task.specs.declared.tasks.Task.{Task}
 use Rattle.orders.specs.Facts.{Effects, Good}
 use Rattle.orders.specs.Sheets.{Outline}
-use Rattle.sheet.specs.Verdicts.{FirstUnknown, LowestWanting, Passes, Refused as NotPassed, effects, effects_of, has_fact, in_a_row}
-use Rattle.sheet.specs.Sheets.{actions, outline}
+use Rattle.sheet.specs.Verdicts.{FirstUnknown, Lays, LowestWanting, Refused as NotPassed, effects, effects_of, has_fact, in_a_row}
+use Rattle.sheet.specs.Sheets.{actions}
 use Rattle.sheet.specs.declared.sheet.Sheet.{Sheet}
 use Rattle.sheet.specs.declared.fault.SheetFault.{SheetFault}
-use Rattle.sheet.specs.declared.fault.SheetFault.TheVariants.{TooLong, UnknownAction, WantingFact}
+use Rattle.sheet.specs.declared.fault.SheetFault.TheVariants.{TooLong, WantingFact}
 use Rattle.lines.specs.Text.{reply_text}
+use Rattle.lines.specs.declared.answer.Reply.{Reply}
 use Rattle.lines.specs.declared.answer.Reply.TheVariants.{Unlaid}
 use Rattle.records.specs.Lines.{Deed}
 use Rattle.book.specs.Loading.{Accepted, Loads}
@@ -84,31 +86,22 @@ module _ (book : List ℕ) (task : Task) (plan : ArrayVec ℕ 128) (accepted : A
   in_week : (Holds : Week → Type 0) → Holds accepted.1.0 → WeekOf book Holds
   in_week Holds h = (accepted.0, (accepted.1.0, accepted.1.1, accepted.1.2, h))
 
-  -- the sheet that is laid is that of the week's plan
-  pub laid : (sheet : Sheet) → actions sheet ≡ numbers → outline sheet ≡ in_a_row (length numbers) → Passes task numbers (in_a_row (length numbers)) → WeekOf book (λ w. LaidAs w task sheet)
-  laid sheet same order passes = in_week (λ w. LaidAs w task sheet) (record {
-    of_week = accepted.1.3.0;
-    steps = same ∙ steps;
-    order = order ∙ ap (λ (l : List ℕ). in_a_row (length l)) steps;
-    passes = subst (λ (s : Outline). Passes task (actions sheet) s) (sym order) (subst (λ (l : List ℕ). Passes task l (in_a_row (length numbers))) (sym same) passes);
-  })
-
-  lowest : (place fact : ℕ) (fault : SheetFault) → fault ≡ WantingFact place fact → LayFault task numbers fault → LowestWanting (in_a_row (length numbers)) (effects_of task numbers) place fact
-  lowest place fact fault e (inl (long, f)) = cc
-  lowest place fact fault e (inr (short, inl (number, f, first))) = cc
-  lowest place fact fault e (inr (short, inr (p, (q, f, known, low)))) =
-      let a : p ≡ place = cc in
-      let b : q ≡ fact = cc in
-      let At : ℕ → ℕ → Type 0 = LowestWanting (in_a_row (length numbers)) (effects_of task numbers) in
-      subst (λ y. At place y) b (subst (λ x. At x q) a low)
-
-  pub unlaid : (place fact : ℕ) (fault : SheetFault) → fault ≡ WantingFact place fact → LayFault task numbers fault → NoSheet book (reply_text (Unlaid place fact))
-  unlaid place fact fault e refused =
-      inr (in_week (NotLaid (reply_text (Unlaid place fact))) (place, (fact, as_week (λ s e. LowestWanting s e place fact) (lowest place fact fault e refused), refl)))
-
   -- a loaded plan is refused for want of a fact, if at all
-  pub only_wanting : (fault : SheetFault) → (fault ≡ TooLong) ⊎ ((number : ℕ) × (fault ≡ UnknownAction number)) → LayFault task numbers fault → ⊥
-  only_wanting fault other (inl (long, f)) = omega (arith, accepted.1.1.steps, ap length steps)
-  only_wanting fault other (inr (short, inl (number, f, first))) = none_unknown accepted.1.0 accepted.1.1 task accepted.1.3.0 number (subst (λ xs. FirstUnknown task xs number) steps first)
-  only_wanting fault (inl long) (inr (short, inr (p, (q, f, known, low)))) = cc
-  only_wanting fault (inr (number, unknown)) (inr (short, inr (p, (q, f, known, low)))) = cc
+  lowest : (fault : SheetFault) → LayFault task numbers fault → (place : ℕ) × ((fact : ℕ) × (fault ≡ WantingFact place fact) × LowestWanting (in_a_row (length numbers)) (effects_of task numbers) place fact)
+  lowest fault (inl (long, f)) = absurd (omega (arith, accepted.1.1.steps, ap length steps))
+  lowest fault (inr (short, inl (number, f, first))) = absurd (none_unknown accepted.1.0 accepted.1.1 task accepted.1.3.0 number (subst (λ xs. FirstUnknown task xs number) steps first))
+  lowest fault (inr (short, inr (p, (q, f, known, low)))) = (p, (q, f, low))
+
+  pub only_wanting : (r : Result Sheet SheetFault) → Lays task numbers r → (fault : SheetFault) → r ≡ Err fault → (place : ℕ) × ((fact : ℕ) × (fault ≡ WantingFact place fact))
+  only_wanting r lays fault is =
+      let (p, (q, f, low)) = lowest fault (subst (Lays task numbers) is lays) in
+      (p, (q, f))
+
+  pub unlaid : (r : Result Sheet SheetFault) → Lays task numbers r → (mapped : Result Sheet Reply) (why : Reply) → mapped ≡ Err why
+      → MatchResult r (λ sheet. mapped ≡ Ok sheet) (λ fault. IsErrAnd mapped (λ why. (place fact : ℕ) → fault ≡ WantingFact place fact → why ≡ Unlaid place fact))
+      → NoSheet book (reply_text why)
+  unlaid (Ok sheet) lays mapped why is same = absurd (cc)
+  unlaid (Err fault) refused mapped why is maps =
+      let (p, (q, f, low)) = lowest fault refused in
+      let says = subst (λ (m : Result Sheet Reply). IsErrAnd m (λ why. (place fact : ℕ) → fault ≡ WantingFact place fact → why ≡ Unlaid place fact)) is maps in
+      inr (in_week (NotLaid (reply_text why)) (p, (q, as_week (λ s e. LowestWanting s e p q) low, ap reply_text (says p q f))))

@@ -1,9 +1,11 @@
 // A book's plan laid as a sheet, and the listing of a sheet.
-ghost use Rattle.std.specs.Prelude.{◌≡◌, MatchResult};
+ghost use Rattle.std.specs.Prelude.{◌≡◌, ℕ, MatchResult};
 ghost use Rattle.lines.specs.Text.{reply_text};
 ghost use Rattle.lines.specs.Writing.{Answers};
+ghost use Rattle.lines.specs.declared.answer.Reply.TheVariants.{Unlaid};
 ghost use Rattle.sets.specs.Contents.{contents};
 ghost use Rattle.sheet.specs.Sheets.{actions};
+ghost use Rattle.sheet.specs.declared.fault.SheetFault.TheVariants.{WantingFact};
 ghost use Rattle.week.specs.Output.{LaidAs, NoSheet, WeekOf, task_text};
 
 use book::load::load;
@@ -31,13 +33,19 @@ pub fn lay_week(book: &[u8]) -> Result<LaidWeek, Reply>
         number: fault.number(),
         line: fault.line(),
     })?;
-    match lay(&task, plan.as_slice()) {
-        Ok(sheet) => Ok(LaidWeek { task, sheet }),
-        Err(fault) => match fault {
-            SheetFault::WantingFact { place, fact } => Err(Reply::Unlaid { place, fact }),
-            // A loaded book's plan fits a sheet, and names only the book's actions.
-            SheetFault::TooLong | SheetFault::UnknownAction(_) => unreachable(),
-        },
+    let sheet = lay(&task, plan.as_slice()).map_err(unlaid)?;
+    Ok(LaidWeek { task, sheet })
+}
+
+// The line for a loaded book's plan that cannot be laid.
+fn unlaid(fault: SheetFault) -> Reply
+    requires { (place : ℕ) × ((fact : ℕ) × (fault ≡ WantingFact place fact)) }
+    ensures { (place fact : ℕ) → fault ≡ WantingFact place fact → result ≡ Unlaid place fact }
+{
+    match fault {
+        SheetFault::WantingFact { place, fact } => Reply::Unlaid { place, fact },
+        // Such a plan fits a sheet, and names only the book's actions.
+        SheetFault::TooLong | SheetFault::UnknownAction(_) => unreachable(),
     }
 }
 
