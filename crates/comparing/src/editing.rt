@@ -21,8 +21,10 @@ const LOOSENINGS: usize = 32;
 // So many edits of all kinds follow.
 const EDITS: usize = 14;
 
+const MOST_EDITS: usize = LOOSENINGS - 1 + EDITS;
+
 // How the edits of one sheet ended, first to last.
-type Made = ArrayVec<End, 45>;
+type Made = ArrayVec<End, MOST_EDITS>;
 
 // The task that the edits are mostly asked under, and two like it.
 #[derive(Clone, Copy)]

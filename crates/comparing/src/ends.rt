@@ -30,8 +30,11 @@ impl Kind {
 #[derive(Clone, Copy, Debug, PartialEq, Eq)]
 pub struct End(pub Kind, pub Option<u32>);
 
-// Every way in which an edit of a small sheet can end.
-const ENDS: [End; 24] = [
+// How many ways an edit of a small sheet can end in.
+const WAYS: usize = 24;
+
+// Each of them.
+const ENDS: [End; WAYS] = [
     End(Kind::Swap, None),
     End(Kind::Swap, Some(1)),
     End(Kind::Swap, Some(6)),
@@ -69,7 +72,7 @@ pub struct Count {
 #[derive(Clone, Copy, Debug, PartialEq, Eq)]
 pub struct Ends {
     pub sheets: u32,
-    pub counts: [Count; 24],
+    pub counts: [Count; WAYS],
 }
 
 impl Ends {
@@ -83,12 +86,12 @@ impl Ends {
     }
 
     // Counts the edits of one sheet more.
-    pub(crate) fn add(&mut self, ends: &[End])
+    pub(crate) fn add(&mut self, made: &[End])
         requires { self.old.sheets + 1 < 2 ^ 32 }
         ensures { self.new.sheets ≡ self.old.sheets + 1 }
     {
         for count in self.counts.iter_mut() {
-            let times = ends.iter().filter(|end| **end == count.end).count();
+            let times = made.iter().filter(|end| **end == count.end).count();
             count.times = count.times.saturating_add(times);
         }
         self.sheets += 1;

@@ -10,7 +10,7 @@ pub(crate) const MOST_STEPS: usize = 6;
 pub(crate) type Actions = ArrayVec<u32, MOST_STEPS>;
 
 // Room for every pair of places: of positions and the place after the last.
-const MOST_PAIRS: usize = 49;
+const MOST_PAIRS: usize = (MOST_STEPS + 1) * (MOST_STEPS + 1);
 
 // Two positions, the one ahead of the other where they are tied.
 pub(crate) type Pair = (usize, usize);

@@ -14,7 +14,7 @@ pub(crate) struct Sources {
 impl Sources {
     pub(crate) fn of<I: Iterator<Item = usize>>(positions: I) -> Self
         requires can { I.can_next positions }
-        requires ends { IsFinite (I.remaining positions) }
+        requires finite { IsFinite (I.remaining positions) }
     {
         Sources {
             positions: ArrayVec::collect(0, positions),

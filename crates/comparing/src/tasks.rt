@@ -136,7 +136,7 @@ impl PlainTask {
     // The facts that stand once the actions are performed, one after the other.
     pub(crate) fn after<I: Iterator<Item = u32>>(&self, actions: I) -> PlainFacts
         requires can { I.can_next actions }
-        requires ends { IsFinite (I.remaining actions) }
+        requires finite { IsFinite (I.remaining actions) }
     {
         actions.fold(
             self.start,

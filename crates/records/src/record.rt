@@ -17,7 +17,9 @@ pub enum Side {
     Goal,
 }
 
-// An edit of the sheet; a replacement's list is a text of action numbers.
+// An edit of the sheet; a replacement's list is a text of action numbers. No generic enum stands for this one and that of
+// `edits`: only `orders` lies below both crates, which holds theorems and no code, and a `match` would still turn the one into
+// the other, since the text has to become a list.
 #[derive(Clone, Copy, Debug)]
 pub enum Edit<'a> {
     Swap(u32),
