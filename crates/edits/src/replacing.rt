@@ -1,15 +1,15 @@
 // Replace: other steps come in place of a block or one position, for less.
-ghost use Rattle.std.specs.Prelude.{◌≡◌, ℕ, suc, ◌+◌, ◌<◌, ◌≤◌, ◌++◌, length, MatchOption, MatchResult, slice_index};
+ghost use Rattle.std.specs.Prelude.{◌≡◌, ℕ, suc, ◌+◌, ◌<◌, ◌≤◌, ◌++◌, length, MatchResult, slice_index};
 ghost use Rattle.edits.specs.Replacing.{AreRun, HasRoom, IsAsked, NotAsked, Replaces, put_in};
 ghost use Rattle.orders.specs.Edits.{IsMember, is_new, none_or_all, replaced, stood, was};
 ghost use Rattle.sets.specs.Contents.{contents};
 ghost use Rattle.sheet.specs.Sheets.{actions, outline};
-ghost use Rattle.sheet.specs.Verdicts.{AllKnown, FirstUnknown};
+ghost use Rattle.sheet.specs.Verdicts.{ChecksActions};
 
 use crate::pairs::rows_of;
 use sets::list::ArrayVec;
 use shaping::{EditFault, adopt};
-use sheet::{Sheet, SheetFault, first_unknown};
+use sheet::{Sheet, SheetFault, check_actions};
 use task::{Tariff, Task};
 
 // A list of actions that comes in place of `first` to `last` of a sheet, which has room for it.
@@ -120,14 +120,12 @@ impl<'s> Offer<'s> {
     }
 }
 
-// The first action, of the sheet and then of the list, that the task lacks.
-fn unknown_asked(task: &Task, sheet: &Sheet, list: &[u32]) -> Option<u32>
-    ensures { MatchOption result
-        (AllKnown task.now (actions sheet.now ++ list.now))
-        (FirstUnknown task.now (actions sheet.now ++ list.now)) }
+// Refuses the first action, of the sheet and then of the list, that the task lacks.
+fn known_asked(task: &Task, sheet: &Sheet, list: &[u32]) -> Result<(), SheetFault>
+    ensures { ChecksActions task.now (actions sheet.now ++ list.now) result }
 {
     let steps = sheet.actions().iter().copied().map(u32::from);
-    first_unknown(task, steps.chain(list.iter().copied()))
+    check_actions(task, steps.chain(list.iter().copied()))
 }
 
 // The sheet asked for, or why there is none.
@@ -155,9 +153,7 @@ fn asked_for(
     if list.len() > 128 - (n - (b + 1 - a)) {
         return Err(EditFault::Sheet(SheetFault::TooLong));
     }
-    if let Some(action) = unknown_asked(task, sheet, list) {
-        return Err(EditFault::Sheet(SheetFault::UnknownAction(action)));
-    }
+    known_asked(task, sheet, list)?;
     let offer = Offer {
         sheet,
         first: a,

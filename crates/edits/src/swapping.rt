@@ -74,7 +74,7 @@ impl<'s> Runs<'s> {
         if self.first < c {
             return BitSet::empty();
         }
-        BitSet::below(128).minus(&BitSet::below(self.last))
+        BitSet::range(self.last, 128)
     }
 
     // The last positions of the blocks that begin at `c` afterwards: a block with both runs stays, and any other goes along.

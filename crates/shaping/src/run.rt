@@ -1,5 +1,5 @@
 // A run of positions of a sheet.
-ghost use Rattle.std.specs.Prelude.{◌≡◌, ℕ, ◌<◌, ◌&&◌, MatchOption, nat_le, nat_lt};
+ghost use Rattle.std.specs.Prelude.{◌≡◌, ℕ, ◌<◌, ◌&&◌, MatchOption, nat_lt};
 ghost use Rattle.shaping.specs.Answers.{InOrder, NotInOrder, crosses};
 ghost use Rattle.orders.specs.Check.{inside};
 ghost use Rattle.sets.specs.Member.{member};
@@ -39,7 +39,7 @@ impl<'s> Run<'s> {
     pub(crate) fn positions(&self) -> BitSet<2>
         ensures { (x : ℕ) → member result.words x ≡ inside self.now.first self.now.last x }
     {
-        span(self.first, self.last + 1)
+        BitSet::range(self.first, self.last + 1)
     }
 
     // The last positions with which a run from `c` on crosses this one.
@@ -47,18 +47,11 @@ impl<'s> Run<'s> {
         ensures { (d : ℕ) → member result.words d ≡ (crosses self.now.first self.now.last c d && nat_lt d 128) }
     {
         if c < self.first {
-            span(self.first, self.last)
+            BitSet::range(self.first, self.last)
         } else if self.first < c && c <= self.last {
-            span(self.last + 1, 128)
+            BitSet::range(self.last + 1, 128)
         } else {
             BitSet::empty()
         }
     }
-}
-
-// The numbers from `first` on and below `end`, as far as there is room.
-fn span(first: usize, end: usize) -> BitSet<2>
-    ensures { (x : ℕ) → member result.words x ≡ (nat_le first x && nat_lt x end && nat_lt x 128) }
-{
-    BitSet::below(end).minus(&BitSet::below(first))
 }
