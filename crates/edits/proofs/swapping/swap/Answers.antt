@@ -4,13 +4,6 @@ use Rattle.edits.proofs.swapping.swap.Goals as goal
 use Rattle.edits.specs.Swaps.{IsSwapped}
 use Rattle.sheet.specs.Sheets.{outline}
 
-pub swapped_sheet-requires : goal.swapped_sheet-requires
-swapped_sheet-requires c =
-    let runs = c.in_ok-runs.runs in
-    let same : runs.sheet.now ≡ c.args.sheet.now = search rules in
-    let is_k : runs.second ≡ c.args.k = search rules in
-    rw (same, is_k) (sym c.if-is_tied.ensures)
-
 pub returns : goal.returns
 returns c =
     let runs = c.in_ok-runs.runs in
