@@ -26,10 +26,8 @@ impl<const W: usize> BitSet<W> {
         ensures { (j : ℕ) → member result.words j ≡ (nat_lt j k && nat_lt j (64 * W)) }
     {
         let mut words = [0; W];
-        let mut rest = k;
-        for word in words.iter_mut() {
-            *word = low_ones(rest);
-            rest = rest.saturating_sub(64);
+        for (i, word) in words.iter_mut().enumerate() {
+            *word = low_ones(k.saturating_sub(i.saturating_mul(64)));
         }
         BitSet { words }
     }

@@ -1,10 +1,11 @@
 // Tariffs: prices of actions by their numbers, and the price of a list of actions.
 ghost use Rattle.std.specs.Prelude.{◌≡◌, ℕ, ◌<◌, ◌≤◌, length, sum_by, MatchResult};
+ghost use Rattle.sets.specs.Contents.{contents};
 ghost use Rattle.task.specs.Lawful.{book_lawful, touch_lawful};
 ghost use Rattle.task.specs.Prices.{Lawful, priced, touches};
 
 use crate::actions::{Action, Facts};
-use crate::tasks::{LONGEST_LIST, Task};
+use crate::tasks::{LONGEST_LIST, Plan, Task};
 
 // A price for each action, by its number.
 pub trait Tariff {
@@ -96,7 +97,18 @@ impl TooLong {
     }
 }
 
-// The sum of the prices of the list's entries, each as often as it stands there.
+// The sum of the prices of the plan's actions, each as often as it stands there.
+pub fn price_of_plan<T: Tariff>(tariff: &T, plan: &Plan) -> u32
+    ensures { result ≡ sum_by (T.Tariff.prices tariff.now) (contents plan.now) }
+{
+    let mut sum = 0;
+    for action in plan.as_slice() {
+        sum += tariff.price(*action);
+    }
+    sum
+}
+
+// The same for a list, which may be longer than any plan.
 pub fn price_of_list<T: Tariff>(tariff: &T, list: &[u32]) -> Result<u32, TooLong>
     ensures { MatchResult result
         (λ sum. (length list.now ≤ 128) × (sum ≡ sum_by (T.Tariff.prices tariff.now) list.now))
@@ -105,9 +117,5 @@ pub fn price_of_list<T: Tariff>(tariff: &T, list: &[u32]) -> Result<u32, TooLong
     if list.len() > LONGEST_LIST {
         return Err(TooLong);
     }
-    let mut sum = 0;
-    for action in list {
-        sum += tariff.price(*action);
-    }
-    Ok(sum)
+    Ok(price_of_plan(tariff, &Plan::collect(0, list.iter().copied())))
 }

@@ -2,11 +2,7 @@ use crate::*;
 use std::test::Fail;
 
 fn facts(members: &[usize]) -> Facts {
-    let mut set = Facts::empty();
-    for f in members {
-        let _ = set.insert(*f);
-    }
-    set
+    Facts::below_where(Task::MOST_FACTS, |f| members.contains(&f))
 }
 
 // It adds 1 and 2 and deletes 1 and 3.
@@ -27,8 +23,7 @@ fn full_task() -> Option<Task> {
 #[test]
 fn performs(rt: HostRuntime) -> Result<(), Fail> {
     let Some(action) = change(1_000_000) else {
-        assert!(rt; false);
-        return Ok(());
+        return Err(Fail::new("the price is refused"));
     };
     let after = action.perform(&facts(&[0, 1, 3]));
     for (fact, stands) in [
@@ -48,8 +43,7 @@ fn performs(rt: HostRuntime) -> Result<(), Fail> {
 #[test]
 fn prices(rt: HostRuntime) -> Result<(), Fail> {
     let Some(task) = full_task() else {
-        assert!(rt; false);
-        return Ok(());
+        return Err(Fail::new("a price is refused"));
     };
     let book = BookTariff { task: &task };
     let touch = TouchTariff {

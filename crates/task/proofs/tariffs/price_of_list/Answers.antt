@@ -1,17 +1,12 @@
-use Rattle.std.proofs.Common.{get_or, arith, rules}
-use Rattle.std.proofs.lemmas.List.Sums.{sum_by_more}
+use Rattle.std.proofs.Common.{◌≤◌, ◌∙◌, length, sum_by, ap}
+use Rattle.std.proofs.lemmas.List.{take_all}
+use Rattle.std.proofs.lemmas.Iterator.{YieldsList-from_slice}
+use Rattle.std.proofs.lemmas.Iterator.Consumers.{YieldsList-at, YieldsList-from_copied}
 use Rattle.task.proofs.tariffs.price_of_list.Goals as goal
 
-pub overflow_add-sum : goal.overflow_add-sum
-overflow_add-sum g c =
-    let law = g.met.T.Tariff.lawful c.args.tariff.now in
-    let here = law.bounded (get_or c.args.list.now c.loop-action.action-index 0) in
-    let top = law.fits in
-    search rules
-
-pub loop-action-preserved : goal.loop-action-preserved
-loop-action-preserved g c =
-    let i = c.loop-action.action-index in
-    let law = g.met.T.Tariff.lawful c.args.tariff.now in
-    let more = sum_by_more (g.T.Tariff.prices c.args.tariff.now) c.args.list.now i 0 c.loop-action-test.true in
-    (omega (arith, more), omega (arith, law.bounded (get_or c.args.list.now i 0), law.fits))
+pub returns : goal.returns
+returns g c =
+    let list = c.args.list.now in
+    let few : length list ≤ 128 = c.if-list-gt-LONGEST_LIST.false in
+    let all = c.collect.ensures list (YieldsList-from_copied (YieldsList-at c.copied.ensures.source (YieldsList-from_slice list (cc)))).runs ∙ take_all 128 list few in
+    (few, c.price_of_plan.ensures ∙ ap (sum_by (g.T.Tariff.prices c.args.tariff.now)) all)

@@ -4,8 +4,8 @@ use Rattle.sets.proofs.bits.BitSet.below.Goals as goal
 
 pub invariant_of-result : goal.invariant_of-result
 invariant_of-result g c =
-    let s = sound_ones c.loop-word.word-items c.loop-word.invariant.0 c.args.k (λ q l. c.loop-word.invariant.2 q (omega arith)) c.ranges.k.fits in
+    let s = sound_ones c.loop-i.word-items c.loop-i.invariant.0 c.args.k (λ q l. c.loop-i.invariant.1 q (omega arith)) c.ranges.k.fits in
     record { size = s.0; fits = s.1; usable = s.2 }
 
 pub returns : goal.returns
-returns g c = member_ones c.loop-word.word-items c.loop-word.invariant.0 c.args.k (λ q l. c.loop-word.invariant.2 q (omega arith))
+returns g c = member_ones c.loop-i.word-items c.loop-i.invariant.0 c.args.k (λ q l. c.loop-i.invariant.1 q (omega arith))
