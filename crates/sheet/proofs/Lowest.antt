@@ -6,10 +6,7 @@ use Rattle.orders.proofs.Wanting.{test_decides_wanting}
 use Rattle.orders.specs.Check.{missing}
 use Rattle.orders.specs.Facts.{Effects, Good, Wanting, needed}
 use Rattle.orders.specs.Sheets.{Outline, Rules}
-use Rattle.sheet.specs.Sheets.{outline}
-use Rattle.sheet.specs.Verdicts.{LowestWanting, effects}
-use Rattle.sheet.specs.declared.sheet.Sheet.{Sheet}
-use Rattle.task.specs.declared.tasks.Task.{Task}
+use Rattle.sheet.specs.Verdicts.{LowestWanting}
 
 module _ (s : Outline) (rules : Rules s) (e : Effects) where
   not_wanting : (p f : ℕ) → missing s e p f ≡ false → Wanting s e p f → ⊥
@@ -28,6 +25,3 @@ module _ (s : Outline) (rules : Rules s) (e : Effects) where
       (λ l. absurd (both_ways (needed s e p f) (grind (arith, nat_tests)) w.0))
       (λ l. not_wanting p f (none p f l) w)
       (cases_lt s.size p)
-
-pub same_missing : {t t' : Task} {s s' : Sheet} → t ≡ t' → s ≡ s' → (p f : ℕ) → missing (outline s) (effects t s) p f ≡ missing (outline s') (effects t' s') p f
-same_missing a b p f = λ i. missing (outline (b i)) (effects (a i) (b i)) p f

@@ -21,9 +21,11 @@ module _ {W : ℕ} where
   row-get_or (r ∷ rows) zero d l j = refl
   row-get_or (r ∷ rows) (suc i) d l j = row-get_or rows i d (omega arith) j
 
-  -- what was read off a row
-  pub row_read : (rows : List (BitSet W)) (i : ℕ) (r : BitSet W) → i < length rows → r ≡ get_or rows i r → (j : ℕ) → member r.words j ≡ in_row rows i j
-  row_read rows i r l e j = ap (λ (s : BitSet W). member s.words j) e ∙ sym (row-get_or rows i r l j)
+  -- a row, or a set with nothing in its place
+  pub row_or : (rows : List (BitSet W)) (i : ℕ) (r : BitSet W) → ((j : ℕ) → member r.words j ≡ false) → (j : ℕ) → member (get_or rows i r).words j ≡ in_row rows i j
+  row_or [] i r e j = e j
+  row_or (s ∷ rows) zero r e j = refl
+  row_or (s ∷ rows) (suc i) r e j = row_or rows i r e j
 
   pub row_past : (rows : List (BitSet W)) (i : ℕ) → length rows ≤ i → (j : ℕ) → in_row rows i j ≡ false
   row_past [] i l j = refl

@@ -1,13 +1,13 @@
 // The check: whether in every running order each step finds the facts that it needs, and the goal is reached.
-ghost use Rattle.std.specs.Prelude.{◌≡◌, ℕ, ◌<◌, ◌&&◌, List, MatchOption};
-ghost use Rattle.std.specs.Iterator.{AlwaysYields, IsFinite};
+ghost use Rattle.std.specs.Prelude.{◌≡◌, ℕ, ◌<◌, ◌&&◌, MatchResult};
 ghost use Rattle.orders.specs.Check.{leads, missing, some_below, taken_by, takes as takes_down};
 ghost use Rattle.orders.specs.Facts.{Good, needed as needed_there};
 ghost use Rattle.sets.specs.Member.{member};
 ghost use Rattle.sheet.specs.Masks.{IsTable};
 ghost use Rattle.sheet.specs.Rows.{in_row};
-ghost use Rattle.sheet.specs.Sheets.{actions, outline};
+ghost use Rattle.sheet.specs.Sheets.{outline};
 ghost use Rattle.sheet.specs.Verdicts.{Checks, ChecksActions, LowestWanting, effects as effects_under};
+ghost use Rattle.sheet.specs.declared.fault.SheetFault.TheVariants.{WantingFact};
 
 use crate::fault::SheetFault;
 use crate::rows::{filled, row};
@@ -134,11 +134,12 @@ impl<'t, 's> Setting<'t, 's> {
         wanting
     }
 
-    // The lowest place that is wanting anything, and the lowest fact that it is wanting.
-    fn first_wanting(&self) -> Option<(usize, usize)>
-        ensures { MatchOption result
-            (Good (outline self.now.effects.sheet.now) (effects_under self.now.effects.task.now self.now.effects.sheet.now))
-            (λ found. LowestWanting (outline self.now.effects.sheet.now) (effects_under self.now.effects.task.now self.now.effects.sheet.now) found.0 found.1) }
+    // Refuses the lowest place that is wanting anything, with the lowest fact that it is wanting.
+    fn check_places(&self) -> Result<(), SheetFault>
+        ensures { MatchResult result
+            (λ _. Good (outline self.now.effects.sheet.now) (effects_under self.now.effects.task.now self.now.effects.sheet.now))
+            (λ fault. (place : ℕ) × ((fact : ℕ) × (fault ≡ WantingFact place fact)
+            × LowestWanting (outline self.now.effects.sheet.now) (effects_under self.now.effects.task.now self.now.effects.sheet.now) place fact)) }
     {
         // Loops left by a label, which the project asks for: they name the place and the fact in the order of the rule.
         'found: {
@@ -146,41 +147,30 @@ impl<'t, 's> Setting<'t, 's> {
                 let wanting = self.wanting_at(place);
                 for fact in 0..Task::MOST_FACTS {
                     if wanting.has(fact) {
-                        break 'found Some((place, fact));
+                        break 'found Err(SheetFault::WantingFact { place, fact });
                     }
                 }
             }
-            None
+            Ok(())
         }
     }
 }
 
 // Refuses the first of the numbers that is none of the task's actions.
-pub fn check_actions<I: Iterator<Item = u32>>(task: &Task, mut numbers: I) -> Result<(), SheetFault>
-    requires can { I.can_next numbers }
-    requires finite { IsFinite (I.remaining numbers) }
-    ensures { (all : List ℕ) → AlwaysYields I.next_gives (λ n. n) numbers all → ChecksActions task.now all result }
+pub fn check_actions(task: &Task, numbers: &[u32]) -> Result<(), SheetFault>
+    ensures { ChecksActions task.now numbers.now result }
 {
     numbers
-        .find(|number| *number as usize >= task.actions.len())
+        .iter()
+        .copied()
+        .find(|number| task.action(*number).is_none())
         .map_or(Ok(()), |number| Err(SheetFault::UnknownAction(number)))
-}
-
-// Refuses the first of the sheet's actions that the task lacks.
-fn check_steps(task: &Task, sheet: &Sheet) -> Result<(), SheetFault>
-    ensures { ChecksActions task.now (actions sheet.now) result }
-{
-    check_actions(task, sheet.actions().iter().copied().map(u32::from))
 }
 
 // Refuses a sheet with an action that the task lacks, and then one that is wanting a fact.
 pub fn check(task: &Task, sheet: &Sheet) -> Result<(), SheetFault>
     ensures { Checks task.now sheet.now result }
 {
-    check_steps(task, sheet)?;
-    Setting::of(&Effects { task, sheet })
-        .first_wanting()
-        .map_or(Ok(()), |(place, fact)| {
-            Err(SheetFault::WantingFact { place, fact })
-        })
+    check_actions(task, sheet.numbers().as_slice())?;
+    Setting::of(&Effects { task, sheet }).check_places()
 }

@@ -12,7 +12,7 @@ pub use checking::{check, check_actions};
 pub use fault::SheetFault;
 pub use relation::Relation;
 pub use rows::row;
-pub use sheet::{Sheet, lay};
+pub use sheet::{Sheet, Steps, lay};
 
 #[cfg(test)]
 mod tests;

@@ -9,11 +9,7 @@ use sets::bits::BitSet;
 pub fn row<const W: usize>(rows: &[BitSet<W>], i: usize) -> BitSet<W>
     ensures { (j : ℕ) → member result.words j ≡ in_row rows.now i j }
 {
-    if i < rows.len() {
-        rows[i]
-    } else {
-        BitSet::empty()
-    }
+    rows.get(i).copied().unwrap_or(BitSet::empty())
 }
 
 // Entry i is what `entry(i)` answers; `fill` stands in an entry until then. With `array::from_fn` the promise stayed open.

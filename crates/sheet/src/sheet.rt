@@ -6,6 +6,7 @@ ghost use Rattle.sheet.specs.Rows.{outlined};
 
 use crate::relation::Relation;
 use sets::list::ArrayVec;
+use task::LONGEST_LIST;
 
 mod laying;
 mod parts;
@@ -13,11 +14,14 @@ mod questions;
 
 pub use laying::lay;
 
+// The action numbers of a sheet's steps.
+pub type Steps = ArrayVec<u8, LONGEST_LIST>;
+
 // A step has an action number below 128. `behind` pairs i with the positions that it is tied before, and `blocks` the first
 // position of each block with its last.
 #[derive(Clone, Copy, PartialEq, Eq)]
 pub struct Sheet {
-    pub steps: ArrayVec<u8, 128>,
+    pub steps: Steps,
     pub behind: Relation,
     pub blocks: Relation,
     ghost numbers: { (i : ℕ) → slice_index (contents steps) i < 128 },

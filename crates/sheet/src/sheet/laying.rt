@@ -6,12 +6,11 @@ ghost use Rattle.sheet.specs.Sheets.{outline};
 ghost use Rattle.sheet.specs.Verdicts.{AllKnown, FirstUnknown, Lays, in_a_row};
 ghost use Rattle.sheet.specs.declared.fault.SheetFault.TheVariants.{UnknownAction};
 
-use super::Sheet;
+use super::{Sheet, Steps};
 use crate::checking::{check, check_actions};
 use crate::fault::SheetFault;
 use crate::relation::Relation;
 use sets::bits::BitSet;
-use sets::list::ArrayVec;
 use task::Task;
 
 // Refuses more than 128 steps, and then what the check refuses. The sheet has the plan's steps, all ties and no block.
@@ -28,14 +27,14 @@ pub fn lay(task: &Task, plan: &[u32]) -> Result<Sheet, SheetFault>
 }
 
 // The plan's action numbers, all of which the task has.
-fn known_steps(task: &Task, plan: &[u32]) -> Result<ArrayVec<u8, 128>, SheetFault>
+fn known_steps(task: &Task, plan: &[u32]) -> Result<Steps, SheetFault>
     requires { length plan.now ≤ 128 }
     ensures { MatchResult result
         (λ steps. (contents steps ≡ plan.now) × AllKnown task.now plan.now)
         (λ fault. ((number : ℕ) × (fault ≡ UnknownAction number) × FirstUnknown task.now plan.now number)) }
 {
-    check_actions(task, plan.iter().copied())?;
-    Ok(ArrayVec::collect(0, plan.iter().map(|number| *number as u8)))
+    check_actions(task, plan)?;
+    Ok(Steps::collect(0, plan.iter().map(|number| *number as u8)))
 }
 
 // Each of `n` positions tied before all later ones.
@@ -47,7 +46,7 @@ fn all_ties(n: usize) -> Relation
 }
 
 // Each step tied before all later ones.
-fn in_order(steps: ArrayVec<u8, 128>) -> Sheet
+fn in_order(steps: Steps) -> Sheet
     requires { (i : ℕ) → slice_index (contents steps) i < 128 }
     ensures { (result.steps ≡ steps) × (outline result ≡ in_a_row (length (contents steps))) }
 {

@@ -1,10 +1,11 @@
 // What can be asked of a sheet.
 ghost use Rattle.std.specs.Prelude.{◌≡◌, ℕ, sum_by};
 ghost use Rattle.std.specs.List.{slice_get};
+ghost use Rattle.sets.specs.Contents.{contents};
 ghost use Rattle.sheet.specs.Sheets.{actions, outline};
 
 use super::Sheet;
-use task::Tariff;
+use task::{Plan, Tariff, price_of_plan};
 
 impl Sheet {
     // How many steps there are.
@@ -19,6 +20,13 @@ impl Sheet {
         ensures { result.now ≡ actions self.now }
     {
         self.steps.as_slice()
+    }
+
+    // The same, as wide as the numbers of a plan.
+    pub fn numbers(&self) -> Plan
+        ensures { contents result ≡ actions self.now }
+    {
+        Plan::collect(0, self.actions().iter().copied().map(u32::from))
     }
 
     // The action number of the step at `i`; None where there is no such position.
@@ -46,10 +54,6 @@ impl Sheet {
     pub fn price<T: Tariff>(&self, tariff: &T) -> u32
         ensures { result ≡ sum_by (T.Tariff.prices tariff.now) (actions self.now) }
     {
-        let mut sum = 0;
-        for number in self.actions() {
-            sum += tariff.price(u32::from(*number));
-        }
-        sum
+        price_of_plan(tariff, &self.numbers())
     }
 }

@@ -1,9 +1,9 @@
-use Rattle.std.proofs.Common.{ℕ, sym, ⊎_elim, arith}
+use Rattle.std.proofs.Common.{refl, ℕ, sym, ⊎_elim, arith}
 use Rattle.std.proofs.lemmas.Bool.{cases_eq, cases_lt}
 use Rattle.sets.proofs.Members.{member_room}
 use Rattle.sheet.proofs.Lowest.{good_from, lowest_from}
 use Rattle.sheet.proofs.SheetRules.{sheet_rules}
-use Rattle.sheet.proofs.checking.Setting.first_wanting.Goals as goal
+use Rattle.sheet.proofs.checking.Setting.check_places.Goals as goal
 use Rattle.sheet.specs.Sheets.{outline}
 use Rattle.sheet.specs.Verdicts.{effects}
 use Rattle.std.proofs.Common.{◌∙◌}
@@ -18,9 +18,15 @@ loop-place-preserved c p f l =
 pub returns-then-has : goal.returns-then-has
 returns-then-has c =
     let effects-now = c.args.self.now.effects in
-    let told = λ (f : ℕ). sym (c.wanting_at-wanting.ensures f) in
-    lowest_from (outline effects-now.sheet.now) (sheet_rules effects-now.sheet.now) (effects effects-now.task.now effects-now.sheet.now) c.loop-place.place c.loop-fact.fact
-    (told c.loop-fact.fact ∙ sym c.if-has.ensures) c.loop-place.invariant (λ f l. told f ∙ c.loop-fact.invariant f l)
+    let told = λ (f : ℕ). sym (c.wanting_at-wanting.ensures f) in (
+      c.loop-place.place,
+      (
+        c.loop-fact.fact,
+        refl,
+        lowest_from (outline effects-now.sheet.now) (sheet_rules effects-now.sheet.now) (effects effects-now.task.now effects-now.sheet.now) c.loop-place.place c.loop-fact.fact
+            (told c.loop-fact.fact ∙ sym c.if-has.ensures) c.loop-place.invariant (λ f l. told f ∙ c.loop-fact.invariant f l),
+      ),
+    )
 
 pub returns-after-loop-place : goal.returns-after-loop-place
 returns-after-loop-place c =

@@ -1,7 +1,7 @@
 use Rattle.std.proofs.Common.{◌≡◌, ℕ, ◌<◌, false}
 use Rattle.orders.specs.Check.{missing}
 use Rattle.sets.specs.Member.{member}
-use Rattle.sheet.proofs.checking.Setting.first_wanting.Given as goal
+use Rattle.sheet.proofs.checking.Setting.check_places.Given as goal
 use Rattle.sheet.specs.Sheets.{outline}
 use Rattle.sheet.specs.Verdicts.{effects}
 
