@@ -1,5 +1,5 @@
 -- What replace answers, by the sheet asked for.
-use Rattle.std.proofs.Common.{◌≡◌, ℕ, ◌+◌, ◌-◌, ◌<◌, ◌≤◌, List, ◌++◌, length, sum_by, sym, refl, ap, ◌∙◌, subst, inl, inr, arith}
+use Rattle.std.proofs.Common.{◌≡◌, ℕ, ◌+◌, ◌-◌, ◌<◌, ◌≤◌, List, ◌++◌, length, sum_by, sym, refl, ap, ◌∙◌, subst, inl, inr, ⊎_elim, get_or, Ok, Err, Result, arith}
 use Rattle.std.proofs.lemmas.List.{get_or-append-add, get_or_append_left, length-append}
 use Rattle.std.proofs.lemmas.List.Elements.{All-from_get_or, All-get_or}
 use Rattle.edits.proofs.PutIn.{put_in_all, sum_by-put_in}
@@ -9,7 +9,9 @@ use Rattle.shaping.specs.declared.fault.EditFault.{EditFault}
 use Rattle.shaping.specs.declared.fault.EditFault.TheVariants.{NotCheaper, Sheet as OfSheet}
 use Rattle.orders.specs.Sheets.{Outline}
 use Rattle.sheet.specs.Sheets.{actions, outline}
-use Rattle.sheet.specs.Verdicts.{AllKnown, Known, LowestWanting, Passes, effects_of}
+use Rattle.sheet.specs.Verdicts.{AllKnown, ChecksActions, FirstUnknown, Known, LowestWanting, Passes, effects_of}
+use Rattle.sheet.specs.declared.fault.SheetFault.{SheetFault}
+use Rattle.std.proofs.lemmas.Bool.{cases_lt}
 use Rattle.sheet.specs.declared.sheet.Sheet.{Sheet}
 use Rattle.task.specs.declared.tasks.Task.{Task}
 
@@ -19,6 +21,40 @@ module _ (task : Task) (xs ys : List ℕ) (known : AllKnown task (xs ++ ys)) whe
 
   pub known_back : AllKnown task ys
   known_back k l = rw (sym (get_or-append-add xs ys k 0)) (known (length xs + k) (omega (arith, length-append xs ys)))
+
+-- what the check of two lists of action numbers says, one after the other
+module _ (task : Task) (xs ys : List ℕ) where
+  pub first_in_front : (number : ℕ) → FirstUnknown task xs number → FirstUnknown task (xs ++ ys) number
+  first_in_front number f = record {
+    at = f.at;
+    within = omega (arith, f.within, length-append xs ys);
+    there = get_or_append_left xs ys 0 f.at f.within ∙ f.there;
+    lacking = f.lacking;
+    first = λ k l. rw (get_or_append_left xs ys 0 k (omega (arith, f.within))) (f.first k l);
+  }
+
+  -- of all numbers of xs ++ ys below a place, if the task has all of xs
+  before_place : AllKnown task xs → (n : ℕ) → ((k : ℕ) → k < n → Known task (get_or ys k 0)) → (k : ℕ) → k < length xs + n → Known task (get_or (xs ++ ys) k 0)
+  before_place known n h k l = ⊎_elim
+      (λ m. rw (get_or_append_left xs ys 0 k m) (known k m))
+      (λ m.
+      let e : length xs + (k - length xs) ≡ k = omega arith in
+      subst (λ (j : ℕ). Known task (get_or (xs ++ ys) j 0)) e (rw (get_or-append-add xs ys (k - length xs) 0) (h (k - length xs) (omega arith))))
+      (cases_lt k (length xs))
+
+  pub known_in_front : AllKnown task xs → (r : Result (Unit {0}) SheetFault) → ChecksActions task ys r → ChecksActions task (xs ++ ys) r
+  known_in_front known (Ok u) h = λ k l. before_place known (length ys) h k (omega (arith, length-append xs ys))
+  known_in_front known (Err fault) (number, is, f) = (
+    number,
+    is,
+    record {
+      at = length xs + f.at;
+      within = omega (arith, f.within, length-append xs ys);
+      there = get_or-append-add xs ys f.at 0 ∙ f.there;
+      lacking = f.lacking;
+      first = before_place known f.at f.first;
+    },
+  )
 
 module _ (task : Task) (before : Sheet) (a b : ℕ) (list : List ℕ) where
   module _ (prices : ℕ → ℕ) (asked : Sheet) (is : IsAsked task before a b list asked) where

@@ -7,9 +7,8 @@ ghost use Rattle.sheet.specs.Sheets.{actions, outline};
 ghost use Rattle.sheet.specs.Verdicts.{ChecksActions};
 
 use crate::pairs::rows_of;
-use sets::list::ArrayVec;
 use shaping::{EditFault, adopt};
-use sheet::{Sheet, SheetFault, check_actions};
+use sheet::{Sheet, SheetFault, Steps, check_actions};
 use task::{Tariff, Task};
 
 // A list of actions that comes in place of `first` to `last` of a sheet, which has room for it.
@@ -96,14 +95,14 @@ impl<'s> Offer<'s> {
     }
 
     // The steps of the sheet asked for.
-    fn steps(&self) -> ArrayVec<u8, 128>
+    fn steps(&self) -> Steps
         ensures { contents result ≡ put_in (actions self.now.sheet.now) self.now.first self.now.last self.now.list.now }
     {
         let steps = self.sheet.actions();
         let front = steps[..self.first].iter().copied();
         let list = self.list.iter().map(|number| *number as u8);
         let rest = steps[self.last + 1..].iter().copied();
-        ArrayVec::collect(0, front.chain(list).chain(rest))
+        Steps::collect(0, front.chain(list).chain(rest))
     }
 
     // The sheet asked for.
@@ -124,8 +123,8 @@ impl<'s> Offer<'s> {
 fn known_asked(task: &Task, sheet: &Sheet, list: &[u32]) -> Result<(), SheetFault>
     ensures { ChecksActions task.now (actions sheet.now ++ list.now) result }
 {
-    let steps = sheet.actions().iter().copied().map(u32::from);
-    check_actions(task, steps.chain(list.iter().copied()))
+    check_actions(task, sheet.numbers().as_slice())?;
+    check_actions(task, list)
 }
 
 // The sheet asked for, or why there is none.

@@ -9,9 +9,8 @@ ghost use Rattle.sheet.specs.Rows.{in_row};
 ghost use Rattle.sheet.specs.Sheets.{actions, outline};
 
 use sets::bits::BitSet;
-use sets::list::ArrayVec;
 use shaping::EditFault;
-use sheet::{Relation, Sheet};
+use sheet::{Relation, Sheet, Steps};
 
 // Two runs of a sheet's positions that change places: from `first` on and ahead of `second`, and from there to `last`.
 // They are the parts of two neighbours; the other ghost fields follow, and are held for the sums and places below.
@@ -107,13 +106,13 @@ impl<'s> Runs<'s> {
         Relation::by_rows(|i| self.moved_behind(i))
     }
 
-    fn moved_steps(&self) -> ArrayVec<u8, 128>
+    fn moved_steps(&self) -> Steps
         ensures { (x : ℕ) → slice_get (contents result) x ≡ slice_get (actions self.now.sheet.now) (comes self.now.first self.now.second self.now.last x) }
     {
         let steps = self.sheet.actions();
         let left = &steps[self.first..self.second];
         let turned = steps[self.second..self.last + 1].iter().chain(left);
-        ArrayVec::collect(
+        Steps::collect(
             0,
             steps[..self.first]
                 .iter()

@@ -1,18 +1,18 @@
-use Rattle.std.proofs.Common.{◌≡◌, ℕ, List, ◌++◌, map, subst, rules}
-use Rattle.std.proofs.lemmas.Iterator.{YieldsList-from_slice, YieldsList-from_map}
-use Rattle.std.proofs.lemmas.Iterator.Consumers.{YieldsList-from_chain, YieldsList-from_copied, YieldsList-at}
-use Rattle.std.proofs.lemmas.List.{map-id}
+use Rattle.std.proofs.Common.{ℕ, List, ◌∙◌, subst}
+use Rattle.std.proofs.lemmas.Result.{err_from_is_err_and}
+use Rattle.edits.proofs.ReplaceAnswers.{first_in_front, known_in_front}
 use Rattle.edits.proofs.replacing.known_asked.Goals as goal
 use Rattle.sheet.specs.Sheets.{actions}
-use Rattle.sheet.specs.Verdicts.{ChecksActions}
+use Rattle.sheet.specs.Verdicts.{AllKnown, FirstUnknown}
+
+pub returns-in_err-check_actions : goal.returns-in_err-check_actions
+returns-in_err-check_actions c =
+    let task = c.args.task.now in
+    let p = err_from_is_err_and c.from_residual.result c.from_residual.ensures.1 in
+    let (number, is, first) = c.in_err-check_actions.ensures in
+    rw (p.1, p.2) (number, is, first_in_front task (actions c.args.sheet.now) c.args.list.now number (subst (λ (xs : List ℕ). FirstUnknown task xs number) (c.as_slice.ensures ∙ c.numbers.ensures) first))
 
 pub returns : goal.returns
 returns c =
-    let numbers = actions c.args.sheet.now in
-    let list = c.args.list.now in
-    subst (λ (xs : List ℕ). ChecksActions c.args.task.now (xs ++ list) c.check_actions.result) (map-id numbers)
-    (c.check_actions.ensures (map (λ n. n) numbers ++ list)
-    (YieldsList-from_chain
-    (YieldsList-at c.chain.ensures.first (YieldsList-from_map _ (λ n. n) (YieldsList-at c.map-steps.ensures.source (YieldsList-from_copied (YieldsList-at c.copied.ensures.source (YieldsList-from_slice numbers (cc))))) c.map-steps.ensures.closure (λ x r q k. search rules)))
-    (YieldsList-at c.chain.ensures.second (YieldsList-from_copied (YieldsList-at c.copied-2.ensures.source (YieldsList-from_slice list (cc)))))
-    (cc) (cc)).runs)
+    let task = c.args.task.now in
+    known_in_front task (actions c.args.sheet.now) c.args.list.now (subst (AllKnown task) (c.as_slice.ensures ∙ c.numbers.ensures) c.in_ok-check_actions.ensures) c.check_actions-2.result c.check_actions-2.ensures
