@@ -1,6 +1,5 @@
 -- Outlines are equal that have the same size, ties and blocks.
-use Rattle.std.proofs.Common.{◌≡◌, ℕ, ◌≤◌, false, sym, subst, ⊎_elim, arith}
-use Rattle.std.proofs.lemmas.Bool.{cases_Bool}
+use Rattle.std.proofs.Common.{◌≡◌, ℕ, sym, subst}
 use Rattle.orders.specs.Sheets.{Outline, Rules}
 
 pub outlines_same : (s t : Outline) → s.size ≡ t.size → ((x y : ℕ) → s.tied x y ≡ t.tied x y) → ((a b : ℕ) → s.block a b ≡ t.block a b) → s ≡ t
@@ -8,7 +7,3 @@ outlines_same s t e f g = λ i. record { size = e i; tied = λ x y. f x y i; blo
 
 pub rules_kept : (s t : Outline) → s ≡ t → Rules t → ∥ Rules s ∥₁
 rules_kept s t e rules = ∣ subst Rules (sym e) rules ∣₁
-
--- no position past the room for them is tied
-pub tied_within : (s : Outline) → Rules s → s.size ≤ 128 → (x y : ℕ) → 128 ≤ x → s.tied x y ≡ false
-tied_within s rules room x y l = let p = rules.forward x y in ⊎_elim (λ h. absurd (omega (arith, p h))) (λ h. h) (cases_Bool (s.tied x y))

@@ -1,52 +1,81 @@
 // Loosen: the ties from one part to another are dropped.
-// `i` and `j` stay two numbers: each function hands them to questions of the sheet, which take two.
-ghost use Rattle.std.specs.Prelude.{◌≡◌, ℕ, ◌<◌, MatchBool};
+ghost use Rattle.std.specs.Prelude.{◌≡◌, ℕ, ◌<◌, ◌&&◌, MatchBool, nat_lt};
 ghost use Rattle.shaping.specs.Answers.{Loosens, TiedBetween};
+ghost use Rattle.orders.specs.Check.{together};
 ghost use Rattle.orders.specs.Edits.{CanLoosen, loosened};
+ghost use Rattle.sets.specs.Member.{member};
 ghost use Rattle.sheet.specs.Rows.{in_row};
 ghost use Rattle.sheet.specs.Sheets.{actions, outline};
 
 use crate::checked::adopt;
 use crate::fault::EditFault;
+use sets::bits::BitSet;
 use sheet::{Relation, Sheet};
 use task::Task;
 
-// Whether a position outside the parts of `i` and `j` is tied behind `i` and before `j`.
-fn is_tied_between(sheet: &Sheet, i: usize, j: usize) -> bool
-    requires { j < (outline sheet.now).size }
-    ensures { MatchBool result (TiedBetween (outline sheet.now) i j) (CanLoosen (outline sheet.now) i j) }
-{
-    let parts = sheet.part_mask(i, j).union(&sheet.part_mask(j, i));
-    let between = sheet.behind.row(i).intersection(&sheet.ahead(j));
-    !parts.contains_all(&between)
+// The parts of `i` and `j` against each other.
+#[derive(Clone, Copy)]
+struct Parts<'s> {
+    sheet: &'s Sheet,
+    i: usize,
+    j: usize,
+    first: BitSet<2>,
+    second: BitSet<2>,
+    ghost part_of_i: { (x : ℕ) → member first.words x ≡ (together (outline sheet.now) x i j && nat_lt x (outline sheet.now).size) },
+    ghost part_of_j: { (x : ℕ) → member second.words x ≡ (together (outline sheet.now) x j i && nat_lt x (outline sheet.now).size) },
 }
 
-// The ties without those from the part of `i` to the part of `j`.
-fn loosened_ties(sheet: &Sheet, i: usize, j: usize) -> Relation
-    ensures { (x y : ℕ) → in_row result.rows x y ≡ (loosened (outline sheet.now) i j).tied x y }
-{
-    let first = sheet.part_mask(i, j);
-    let second = sheet.part_mask(j, i);
-    Relation::by_rows(|x| {
-        let row = sheet.behind.row(x);
-        if first.has(x) {
-            row.minus(&second)
-        } else {
-            row
+impl<'s> Parts<'s> {
+    fn of(sheet: &'s Sheet, i: usize, j: usize) -> Parts<'s>
+        ensures { (result.sheet.now ≡ sheet.now) × (result.i ≡ i) × (result.j ≡ j) }
+    {
+        Parts {
+            sheet,
+            i,
+            j,
+            first: sheet.part_mask(i, j),
+            second: sheet.part_mask(j, i),
         }
-    })
-}
+    }
 
-// The sheet without the ties from the part of `i` to the part of `j`.
-fn loosened_sheet(sheet: &Sheet, i: usize, j: usize) -> Sheet
-    requires { CanLoosen (outline sheet.now) i j }
-    ensures steps { actions result ≡ actions sheet.now }
-    ensures order { outline result ≡ loosened (outline sheet.now) i j }
-{
-    Sheet {
-        steps: sheet.steps,
-        behind: loosened_ties(sheet, i, j),
-        blocks: sheet.blocks,
+    // Whether a position outside both is tied behind `i` and before `j`.
+    fn is_tied_between(&self) -> bool
+        requires { self.now.j < (outline self.now.sheet.now).size }
+        ensures { MatchBool result (TiedBetween (outline self.now.sheet.now) self.now.i self.now.j) (CanLoosen (outline self.now.sheet.now) self.now.i self.now.j) }
+    {
+        let between = self
+            .sheet
+            .behind
+            .row(self.i)
+            .intersection(&self.sheet.ahead(self.j));
+        !self.first.union(&self.second).contains_all(&between)
+    }
+
+    // The ties without those from the first part to the second.
+    fn loosened_ties(&self) -> Relation
+        ensures { (x y : ℕ) → in_row result.rows x y ≡ (loosened (outline self.now.sheet.now) self.now.i self.now.j).tied x y }
+    {
+        Relation::by_rows(|x| {
+            let row = self.sheet.behind.row(x);
+            if self.first.has(x) {
+                row.minus(&self.second)
+            } else {
+                row
+            }
+        })
+    }
+
+    // The sheet without the ties from the first part to the second.
+    fn loosened_sheet(&self) -> Sheet
+        requires { CanLoosen (outline self.now.sheet.now) self.now.i self.now.j }
+        ensures steps { actions result ≡ actions self.now.sheet.now }
+        ensures order { outline result ≡ loosened (outline self.now.sheet.now) self.now.i self.now.j }
+    {
+        Sheet {
+            steps: self.sheet.steps,
+            behind: self.loosened_ties(),
+            blocks: self.sheet.blocks,
+        }
     }
 }
 
@@ -62,9 +91,10 @@ pub fn loosen(sheet: &mut Sheet, task: &Task, i: usize, j: usize) -> Result<(), 
     if !sheet.is_tied(i, j) {
         return Err(EditFault::Tie);
     }
-    if is_tied_between(sheet, i, j) {
+    let parts = Parts::of(sheet, i, j);
+    if parts.is_tied_between() {
         return Err(EditFault::Between);
     }
-    let asked = loosened_sheet(sheet, i, j);
+    let asked = parts.loosened_sheet();
     adopt(sheet, task, asked)
 }
