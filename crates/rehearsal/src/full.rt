@@ -70,15 +70,12 @@ pub fn rehearse_full_sheets(rt: &HostRuntime) -> anyhow::Result<()> {
     let book = Rehearsal::by_book(rt, &task);
     book.lay(&[u32::MAX; 129])?;
     book.lay(&[u32::MAX; 128])?;
-    if let Some(mut sheet) = book.lay(&[0; 128])? {
-        rehearse_number(&book, &sheet, 127)?;
-        rehearse_number(&book, &sheet, 128)?;
-        book.edits(&mut sheet, &SHAPING)?;
-        book.edits(&mut sheet, &FILLING)?;
-        book.edits(&mut sheet, &LONG)?;
-    }
-    if let Some(mut sheet) = book.lay(&[3])? {
-        book.edits(&mut sheet, &LONG_FOR_ONE)?;
-    }
-    Ok(())
+    book.on_laid(&[0; 128], |sheet| {
+        rehearse_number(&book, sheet, 127)?;
+        rehearse_number(&book, sheet, 128)?;
+        book.edits(sheet, &SHAPING)?;
+        book.edits(sheet, &FILLING)?;
+        book.edits(sheet, &LONG)
+    })?;
+    book.on_laid(&[3], |sheet| book.edits(sheet, &LONG_FOR_ONE))
 }

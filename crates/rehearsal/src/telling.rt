@@ -163,6 +163,20 @@ impl<'a, T: Tariff> Rehearsal<'a, T> {
         Ok(answer.ok())
     }
 
+    // Lays the plan, and goes on with its sheet. A refused plan is told and is no fault, which a `?` would make of it.
+    pub fn on_laid<F: FnOnce(&mut Sheet) -> anyhow::Result<()>>(
+        &self,
+        plan: &[u32],
+        then: F,
+    ) -> anyhow::Result<()>
+        requires { F.IsAlwaysCallable then }
+    {
+        let Some(mut sheet) = self.lay(plan)? else {
+            return Ok(());
+        };
+        then(&mut sheet)
+    }
+
     pub fn check(&self, sheet: &Sheet) -> anyhow::Result<()> {
         let rt = self.rt;
         match check(self.task, sheet) {
