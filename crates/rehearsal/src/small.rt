@@ -36,28 +36,31 @@ pub fn rehearse_number(
     Ok(())
 }
 
-// Here and below a plan that is refused ends its rehearsal, told and with no fault, which a `?` would make of it.
-pub fn rehearse_far_numbers(rt: &HostRuntime) -> anyhow::Result<()> {
-    println!(rt; "-- numbers far out of range")?;
+// Tells the title, lays the plan under the task of idle actions, and goes on with the sheet.
+fn on_idle<F: FnOnce(&Rehearsal<'_, BookTariff<'_>>, &mut Sheet) -> anyhow::Result<()>>(
+    rt: &HostRuntime,
+    title: &str,
+    plan: &[u32],
+    then: F,
+) -> anyhow::Result<()>
+    requires { F.IsAlwaysCallable then }
+{
+    println!(rt; "-- {title}")?;
     let task = idle();
     let book = Rehearsal::by_book(rt, &task);
-    let Some(sheet) = book.lay(&[0, 0, 0, 0])? else {
-        return Ok(());
-    };
-    for number in NUMBERS {
-        rehearse_number(&book, &sheet, number)?;
-    }
-    Ok(())
+    book.on_laid(plan, |sheet| then(&book, sheet))
+}
+
+pub fn rehearse_far_numbers(rt: &HostRuntime) -> anyhow::Result<()> {
+    on_idle(rt, "numbers far out of range", &[0, 0, 0, 0], |book, sheet| {
+        for number in NUMBERS {
+            rehearse_number(book, sheet, number)?;
+        }
+        Ok(())
+    })
 }
 
 pub fn rehearse_empty_sheet(rt: &HostRuntime) -> anyhow::Result<()> {
-    println!(rt; "-- no steps")?;
-    let task = idle();
-    let book = Rehearsal::by_book(rt, &task);
-    let Some(mut sheet) = book.lay(&[])? else {
-        return Ok(());
-    };
-    book.check(&sheet)?;
     let edits = [
         Edit::Swap(0),
         Edit::Swap(1),
@@ -68,16 +71,13 @@ pub fn rehearse_empty_sheet(rt: &HostRuntime) -> anyhow::Result<()> {
         Edit::Replace(0, 0, &[4]),
         Edit::Replace(0, 0, &[]),
     ];
-    book.edits(&mut sheet, &edits)
+    on_idle(rt, "no steps", &[], |book, sheet| {
+        book.check(sheet)?;
+        book.edits(sheet, &edits)
+    })
 }
 
 pub fn rehearse_lists(rt: &HostRuntime) -> anyhow::Result<()> {
-    println!(rt; "-- lists")?;
-    let task = idle();
-    let book = Rehearsal::by_book(rt, &task);
-    let Some(mut sheet) = book.lay(&[0])? else {
-        return Ok(());
-    };
     let edits = [
         Edit::Replace(0, 0, &[u32::MAX]),
         Edit::Replace(0, 0, &[4, u32::MAX, 5]),
@@ -94,8 +94,10 @@ pub fn rehearse_lists(rt: &HostRuntime) -> anyhow::Result<()> {
         Edit::Replace(0, 2, &[4, 4, 4]),
         Edit::Replace(0, 2, &[4]),
     ];
-    book.edits(&mut sheet, &edits)?;
-    book.show(&sheet)
+    on_idle(rt, "lists", &[0], |book, sheet| {
+        book.edits(sheet, &edits)?;
+        book.show(sheet)
+    })
 }
 
 const NESTING: [Edit<'static>; 8] = [
@@ -124,13 +126,9 @@ const CHANGES: [Edit<'static>; 10] = [
 ];
 
 pub fn rehearse_nested_blocks(rt: &HostRuntime) -> anyhow::Result<()> {
-    println!(rt; "-- blocks in blocks")?;
-    let task = idle();
-    let book = Rehearsal::by_book(rt, &task);
-    let Some(mut sheet) = book.lay(&[0; 6])? else {
-        return Ok(());
-    };
-    book.edits(&mut sheet, &NESTING)?;
-    book.show(&sheet)?;
-    book.edits_and_sheets(&mut sheet, &CHANGES)
+    on_idle(rt, "blocks in blocks", &[0; 6], |book, sheet| {
+        book.edits(sheet, &NESTING)?;
+        book.show(sheet)?;
+        book.edits_and_sheets(sheet, &CHANGES)
+    })
 }

@@ -46,19 +46,18 @@ pub fn rehearse_week(rt: &HostRuntime) -> anyhow::Result<()> {
     book.lay(&[3, 0])?;
     book.lay(&[0, 1, 2])?;
     book.lay(&[0, 7, 8])?;
-    let Some(mut sheet) = book.lay(&PLAN)? else {
-        return Ok(());
-    };
-    rehearse_edits(&book, &mut sheet)?;
-    rehearse_touches(rt, &task, &mut sheet)?;
-    println!(rt; "-- priced by the book again")?;
     let edits = [
         Edit::Swap(3),
         Edit::Swap(3),
         Edit::Replace(0, 2, &[0, 6, 2]),
     ];
-    book.edits_and_sheets(&mut sheet, &edits)?;
-    book.check(&sheet)
+    book.on_laid(&PLAN, |sheet| {
+        rehearse_edits(&book, sheet)?;
+        rehearse_touches(rt, &task, sheet)?;
+        println!(rt; "-- priced by the book again")?;
+        book.edits_and_sheets(sheet, &edits)?;
+        book.check(sheet)
+    })
 }
 
 // The week's sheet with its two blocks.
