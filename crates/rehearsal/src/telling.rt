@@ -61,14 +61,16 @@ impl fmt::Display for Refusal {
     }
 }
 
-// The blocks of the sheet that begin at one position.
+// The blocks of the sheet, by their first positions and then by their last ones.
 #[derive(Clone, Copy)]
-struct BlocksAt<'a>(&'a Sheet, usize);
+struct Blocks<'a>(&'a Sheet);
 
-impl fmt::Display for BlocksAt<'_> {
+impl fmt::Display for Blocks<'_> {
     fn fmt<W: fmt::Write>(&self, f: &mut fmt::Formatter<W>) -> fmt::Result {
-        let BlocksAt(sheet, a) = *self;
-        for b in (0..sheet.steps()).filter(|b| sheet.is_block(a, *b)) {
+        let sheet = self.0;
+        let n = sheet.steps();
+        let pairs = (0..n).flat_map(|a| (0..n).map(move |b| (a, b)));
+        for (a, b) in pairs.filter(|(a, b)| sheet.is_block(*a, *b)) {
             write!(f, " {a}-{b}")?;
         }
         Ok(())
@@ -193,12 +195,8 @@ impl<'a, T: Tariff> Rehearsal<'a, T> {
     pub fn show(&self, sheet: &Sheet) -> anyhow::Result<()> {
         let rt = self.rt;
         let actions = Actions(sheet);
-        print!(rt; "actions{actions}; blocks")?;
-        for a in 0..sheet.steps() {
-            let blocks = BlocksAt(sheet, a);
-            print!(rt; "{blocks}")?;
-        }
-        println!(rt; "")?;
+        let blocks = Blocks(sheet);
+        println!(rt; "actions{actions}; blocks{blocks}")?;
         Ok(())
     }
 }
