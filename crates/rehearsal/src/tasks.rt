@@ -29,11 +29,7 @@ const IDLE: [Row; 5] = [
 ];
 
 pub fn set_of(facts: &[usize]) -> Facts {
-    let mut set = Facts::empty();
-    for fact in facts {
-        set.insert(*fact);
-    }
-    set
+    Facts::below_where(Task::MOST_FACTS, |fact| facts.contains(&fact))
 }
 
 fn with_actions(rows: &[Row]) -> Task {
