@@ -65,6 +65,7 @@ const LONG_FOR_ONE: [Edit<'static>; 6] = [
 ];
 
 pub fn rehearse_full_sheets(rt: &HostRuntime) -> anyhow::Result<()> {
+    // Not by `on_idle`, since two plans that are refused come first.
     println!(rt; "-- full sheets")?;
     let task = idle();
     let book = Rehearsal::by_book(rt, &task);

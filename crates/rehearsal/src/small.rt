@@ -52,7 +52,7 @@ fn on_idle<F: FnOnce(&Rehearsal<'_, BookTariff<'_>>, &mut Sheet) -> anyhow::Resu
 }
 
 pub fn rehearse_far_numbers(rt: &HostRuntime) -> anyhow::Result<()> {
-    on_idle(rt, "numbers far out of range", &[0, 0, 0, 0], |book, sheet| {
+    on_idle(rt, "numbers far out of range", &[0; 4], |book, sheet| {
         for number in NUMBERS {
             rehearse_number(book, sheet, number)?;
         }

@@ -14,12 +14,14 @@ struct Entries<'a>(&'a [u32]);
 impl fmt::Display for Entries<'_> {
     fn fmt<W: fmt::Write>(&self, f: &mut fmt::Formatter<W>) -> fmt::Result {
         let len = self.0.len();
+        // An empty list has a word of its own, and is no fault.
         let Some(first) = self.0.first() else {
             return write!(f, " nothing");
         };
         if len > LONGEST {
             return write!(f, " {len} times {first}");
         }
+        // A loop, here and below: each turn writes, and may fail.
         for action in self.0 {
             write!(f, " {action}")?;
         }
@@ -90,7 +92,7 @@ impl fmt::Display for Actions<'_> {
     }
 }
 
-// A task and the tariff under which edits are asked for.
+// A task and the tariff under which edits are asked for. The functions that take `rt` and `task` make one.
 #[derive(Clone, Copy)]
 pub struct Rehearsal<'a, T: Tariff> {
     rt: &'a HostRuntime,
@@ -130,6 +132,7 @@ impl<'a, T: Tariff> Rehearsal<'a, T> {
         Ok(())
     }
 
+    // A loop, as below and in `small`: each turn asks, prints, and may fail.
     pub fn edits(&self, sheet: &mut Sheet, edits: &[Edit<'_>]) -> anyhow::Result<()> {
         for edit in edits {
             self.edit(sheet, *edit)?;
@@ -165,7 +168,7 @@ impl<'a, T: Tariff> Rehearsal<'a, T> {
         Ok(answer.ok())
     }
 
-    // Lays the plan, and goes on with its sheet. A refused plan is told and is no fault, which a `?` would make of it.
+    // Lays the plan, and goes on with its sheet; where the plan is refused, that is told, and is no fault.
     pub fn on_laid<F: FnOnce(&mut Sheet) -> anyhow::Result<()>>(
         &self,
         plan: &[u32],

@@ -85,6 +85,7 @@ const ASKED: [Edit<'static>; 9] = [
 
 fn rehearse_under(rt: &HostRuntime, name: &str, task: &Task) -> anyhow::Result<()> {
     println!(rt; "-- the week's sheet under {name}")?;
+    // Where there is no sheet nothing is asked, and that is no fault.
     let Some(mut sheet) = parted_week() else {
         return Ok(());
     };
