@@ -10,8 +10,9 @@ use Rattle.shaping.specs.declared.fault.EditFault.{EditFault}
 use Rattle.lines.proofs.Puts.{put_more}
 use Rattle.lines.specs.Writing.{Put}
 use Rattle.orders.specs.Changes.{Change}
-use Rattle.records.specs.Lines.{Line, Proper}
+use Rattle.records.specs.Lines.{Line, Proper, ProperChange}
 use Rattle.records.specs.Reading.{unread}
+use Rattle.records.specs.Records.{EditSays}
 use Rattle.records.specs.declared.reader.Reader.{Reader}
 use Rattle.records.specs.declared.record.Edit.{Edit}
 use Rattle.week.specs.Editing.{CarriedOut, NextEdit, Outgrown, answer_text, book_prices, changes_in, replies}
@@ -59,34 +60,42 @@ module _ (task : Task) (first : Sheet) (room : List ℕ) (lines : List Line) whe
   pub work_begins : (reader : Reader) → AllByRecursion Proper lines → unread reader ≡ bytes lines → Working reader 0 first room
   work_begins reader forms e = record { front = []; more = lines; forms = forms; left = e; split = refl; answers = []; carried = refl; put = record { place = refl; bytes = refl } }
 
-  module _ (reader reader' : Reader) (len : ℕ) (before after : Sheet) (out : List ℕ) (w : Working reader len before out) (e : Edit) (next : NextEdit w.more e reader') where
+  -- one edit is read and carried out, and its text is the line for its answer
+  module _ (fits : AllByRecursion ChangeFits (changes_in lines)) (reader reader' : Reader) (len : ℕ) (before after : Sheet) (out : List ℕ) (w : Working reader len before out)
+      (e : Edit) (reads : (left : List Line) → AllByRecursion Proper left → unread reader ≡ bytes left → NextEdit left e reader')
+      (answer : Result ℕ EditFault) (carries : (change : Change) → ProperChange change → ChangeFits change → EditSays e change → Applies (book_prices task) task before change answer after)
+      (text : List ℕ) (is : text ≡ answer_text answer) where
+    next : NextEdit w.more e reader'
+    next = reads w.more w.forms w.left
+
     split_more : changes_in lines ≡ (w.front ++ next.change ∷ []) ++ changes_in next.more
     split_more = w.split ∙ ap (λ (l : List Change). w.front ++ l) next.changes ∙ sym (append_assoc w.front (next.change ∷ []) (changes_in next.more))
 
-    pub next_fits : AllByRecursion ChangeFits (changes_in lines) → ChangeFits next.change
-    next_fits fits = (all_parts ChangeFits w.front (next.change ∷ []) (all_parts ChangeFits (w.front ++ next.change ∷ []) (changes_in next.more) (subst (AllByRecursion ChangeFits) split_more fits)).0).1.0
+    carried : CarriedOut task first (w.front ++ next.change ∷ []) (w.answers ++ answer ∷ []) after
+    carried =
+        let fit = (all_parts ChangeFits w.front (next.change ∷ []) (all_parts ChangeFits (w.front ++ next.change ∷ []) (changes_in next.more) (subst (AllByRecursion ChangeFits) split_more fits)).0).1.0 in
+        carried_more task first before after w.front w.answers next.change answer w.carried (carries next.change next.proper fit next.says)
 
-    module _ (answer : Result ℕ EditFault) (applies : Applies (book_prices task) task before next.change answer after) (text : List ℕ) (is : text ≡ answer_text answer) where
-      pub works_on : (len' : ℕ) (out' : List ℕ) → Put text out len len' out' → Working reader' len' after out'
-      works_on len' out' put = record {
-        front = w.front ++ next.change ∷ [];
-        more = next.more;
-        forms = next.forms;
-        left = next.left;
-        split = split_more;
-        answers = w.answers ++ answer ∷ [];
-        carried = carried_more task first before after w.front w.answers next.change answer w.carried applies;
-        put = subst (λ (t : List ℕ). Put t room 0 len' out') (ap (λ (l : List ℕ). replies w.answers ++ l) is ∙ flat_map_more answer_text [] w.answers answer) (put_more (omega arith) w.put put);
-      }
+    pub works_on : (len' : ℕ) (out' : List ℕ) → Put text out len len' out' → Working reader' len' after out'
+    works_on len' out' put = record {
+      front = w.front ++ next.change ∷ [];
+      more = next.more;
+      forms = next.forms;
+      left = next.left;
+      split = split_more;
+      answers = w.answers ++ answer ∷ [];
+      carried = carried;
+      put = subst (λ (t : List ℕ). Put t room 0 len' out') (ap (λ (l : List ℕ). replies w.answers ++ l) is ∙ flat_map_more answer_text [] w.answers answer) (put_more (omega arith) w.put put);
+    }
 
-      pub no_room : length room < len + length text → Outgrown task first (changes_in lines) room after out
-      no_room short = record {
-        front = w.front ++ next.change ∷ [];
-        more = changes_in next.more;
-        split = split_more;
-        answers = w.answers;
-        last = answer;
-        carried = carried_more task first before after w.front w.answers next.change answer w.carried applies;
-        short = omega (arith, w.put.place, ap length is, length-append (replies w.answers) (answer_text answer));
-        wrote = w.put.bytes ∙ ap (λ n. replies w.answers ++ drop n room) (w.put.place ∙ omega arith);
-      }
+    pub no_room : length room < len + length text → Outgrown task first (changes_in lines) room after out
+    no_room short = record {
+      front = w.front ++ next.change ∷ [];
+      more = changes_in next.more;
+      split = split_more;
+      answers = w.answers;
+      last = answer;
+      carried = carried;
+      short = omega (arith, w.put.place, ap length is, length-append (replies w.answers) (answer_text answer));
+      wrote = w.put.bytes ∙ ap (λ n. replies w.answers ++ drop n room) (w.put.place ∙ omega arith);
+    }

@@ -1,7 +1,7 @@
 use Rattle.std.proofs.Common.{◌∙◌, arith}
 use Rattle.std.proofs.lemmas.Result.{err_from_is_err_and}
 use Rattle.week.proofs.Behind.{no_room_behind, written_behind}
-use Rattle.week.proofs.Working.{next_fits, no_room, work_begins, works_on}
+use Rattle.week.proofs.Working.{no_room, work_begins, works_on}
 use Rattle.week.proofs.editing.carry_out_all.Goals as goal
 
 pub loop-edit-init : goal.loop-edit-init
@@ -12,11 +12,8 @@ returns-in_err-len-clause-says c lines forms fits e =
     let p = err_from_is_err_and c.from_residual.result c.from_residual.ensures.1 in
     let short = c.in_err-len.ensures in
     let behind = no_room_behind _ c.loop-edit.out c.reply.new.out c.loop-edit.len (omega (arith, c.loop-edit.invariant.0, c.loop-edit.auto.out)) short.0 short.1 in
-    let w = c.loop-edit.invariant.1 lines forms fits e in
-    let next = c.in-Some.ensures.says w.more w.forms w.left in
-    let proper = next_fits _ _ _ lines _ _ _ _ c.carry_out-answer.new.sheet _ w c.in-Some.edit next fits in
     rw (p.1, behind.1)
-    (no_room _ _ _ lines _ _ _ _ c.carry_out-answer.new.sheet _ w c.in-Some.edit next c.carry_out-answer.result (c.carry_out-answer.ensures next.change next.proper proper next.says) _ c.reply_to.ensures (omega (arith, c.loop-edit.auto.out, behind.0)))
+    (no_room _ _ _ lines fits _ _ _ _ c.carry_out-answer.new.sheet _ (c.loop-edit.invariant.1 lines forms fits e) c.in-Some.edit c.in-Some.ensures.says c.carry_out-answer.result c.carry_out-answer.ensures _ c.reply_to.ensures (omega (arith, c.loop-edit.auto.out, behind.0)))
 
 pub loop-edit-preserved : goal.loop-edit-preserved
 loop-edit-preserved c =
@@ -24,8 +21,5 @@ loop-edit-preserved c =
     let (put, within) = written_behind _ c.loop-edit.out c.reply.new.out c.loop-edit.len (omega (arith, c.loop-edit.invariant.0, c.loop-edit.auto.out)) _ done.0 done.1 done.2 in (
       omega (arith, c.loop-edit.auto.out, within),
       λ lines forms fits e.
-          let w = c.loop-edit.invariant.1 lines forms fits e in
-          let next = c.in-Some.ensures.says w.more w.forms w.left in
-          let proper = next_fits _ _ _ lines _ _ _ _ c.carry_out-answer.new.sheet _ w c.in-Some.edit next fits in
-          works_on _ _ _ lines _ _ _ _ c.carry_out-answer.new.sheet _ w c.in-Some.edit next c.carry_out-answer.result (c.carry_out-answer.ensures next.change next.proper proper next.says) _ c.reply_to.ensures _ _ put,
+          works_on _ _ _ lines fits _ _ _ _ c.carry_out-answer.new.sheet _ (c.loop-edit.invariant.1 lines forms fits e) c.in-Some.edit c.in-Some.ensures.says c.carry_out-answer.result c.carry_out-answer.ensures _ c.reply_to.ensures _ _ put,
     )
