@@ -1,5 +1,5 @@
 // Replace: other steps come in place of a block or one position, for less.
-ghost use Rattle.std.specs.Prelude.{◌≡◌, ℕ, suc, ◌+◌, ◌<◌, ◌≤◌, ◌++◌, length, MatchResult, slice_index};
+ghost use Rattle.std.specs.Prelude.{◌≡◌, ℕ, ◌+◌, ◌<◌, ◌++◌, length, MatchResult, slice_index};
 ghost use Rattle.edits.specs.Replacing.{AreRun, HasRoom, IsAsked, NotAsked, Replaces, put_in};
 ghost use Rattle.orders.specs.Edits.{IsMember, is_new, none_or_all, replaced, stood, was};
 ghost use Rattle.sets.specs.Contents.{contents};
@@ -11,7 +11,8 @@ use shaping::{EditFault, adopt};
 use sheet::{Sheet, SheetFault, Steps, check_actions};
 use task::{Tariff, Task};
 
-// A list of actions that comes in place of `first` to `last` of a sheet, which has room for it.
+// A list of actions that comes in place of `first` to `last` of a sheet, which has room for it. Its methods ask for numbers
+// below 128 one by one: a type for such a number would be taken apart in each of them.
 #[derive(Drop)]
 struct Offer<'s> {
     sheet: &'s Sheet,
@@ -127,7 +128,7 @@ fn known_asked(task: &Task, sheet: &Sheet, list: &[u32]) -> Result<(), SheetFaul
     check_actions(task, list)
 }
 
-// The sheet asked for, or why there is none.
+// The sheet asked for, or why there is none. What `replace` is called with comes on as it is: only here is it made an `Offer`.
 fn asked_for(
     sheet: &Sheet,
     task: &Task,

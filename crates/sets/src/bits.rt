@@ -39,7 +39,7 @@ impl<const W: usize> BitSet<W> {
         BitSet::below(end).minus(&BitSet::below(first))
     }
 
-    // The numbers below `k` that pass, as far as there is room. The loop is here once, for all that make a set by a test.
+    // The numbers below `k` that pass, as far as there is room. A `filter` would have the same test and the same `insert`.
     pub fn below_where<F: Fn(usize) -> bool>(k: usize, passes: F) -> Self
         requires { (j : ℕ) → j < k → F.pre passes j }
         ensures test { (j : ℕ) → j < k → j < 64 * W → (passed : Bool) × F.post passes j passed × (member result.words j ≡ passed) }

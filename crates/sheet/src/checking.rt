@@ -61,7 +61,7 @@ impl Effects<'_, '_> {
     }
 }
 
-// The facts that are added at one of the positions below `n`. A fold would have the same test in its closure.
+// The facts that are added at one of the positions below `n`. By a `for`: a fold would have the same test in its closure.
 fn supplied(adds: &[Facts], positions: &BitSet<2>, n: usize) -> Facts
     ensures { (f : ℕ) → member result.words f ≡ some_below n (λ x. in_row adds.now x f && member positions.now.words x) }
 {
@@ -111,7 +111,8 @@ impl<'t, 's> Setting<'t, 's> {
         taken.minus(&supplied(&self.adds, &forced, sheet.steps()))
     }
 
-    // The facts that place `p` is wanting. A fold over the positions would say no more than the loop.
+    // The facts that place `p` is wanting. By a `for`: each turn calls `lost`, which asks for a position, and in a fold the
+    // closure would have to ask for it too.
     fn wanting_at(&self, p: usize) -> Facts
         ensures { (f : ℕ) → member result.words f
             ≡ missing (outline self.now.effects.sheet.now) (effects_under self.now.effects.task.now self.now.effects.sheet.now) p f }

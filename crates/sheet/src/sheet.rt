@@ -1,5 +1,5 @@
 // A sheet: steps in their home order, ties and blocks.
-ghost use Rattle.std.specs.Prelude.{◌≡◌, ℕ, ◌<◌, slice_index};
+ghost use Rattle.std.specs.Prelude.{ℕ, ◌<◌, slice_index};
 ghost use Rattle.orders.specs.Sheets.{Rules};
 ghost use Rattle.sets.specs.Contents.{contents};
 ghost use Rattle.sheet.specs.Rows.{outlined};

@@ -1,5 +1,5 @@
 // What can be asked of a sheet.
-ghost use Rattle.std.specs.Prelude.{◌≡◌, ℕ, sum_by};
+ghost use Rattle.std.specs.Prelude.{◌≡◌, sum_by};
 ghost use Rattle.std.specs.List.{slice_get};
 ghost use Rattle.sets.specs.Contents.{contents};
 ghost use Rattle.sheet.specs.Sheets.{actions, outline};
