@@ -17,5 +17,6 @@ pub mod Places
 pub mod SmallSheets
 pub mod Sorting
 pub mod Standing
+pub mod Tested
 pub mod Trees
 pub mod Wanting

@@ -5,6 +5,7 @@ pub mod DrivingTheorems
 pub mod EditTheorems
 pub mod Edits
 pub mod Facts
+pub mod Lists
 pub mod Running
 pub mod Sheets
 pub mod SmallSheets

@@ -1,7 +1,8 @@
 -- Small sheets and what is wanting in each, as rows of one table.
-use Rattle.std.specs.Prelude.{ℕ, zero, suc, ◌<◌, Bool, false, ◌&&◌, ◌||◌, List, [], ◌∷◌, length, Some, None, Option, ◌==◌}
+use Rattle.std.specs.Prelude.{ℕ, zero, suc, ◌<◌, Bool, false, List, [], ◌∷◌, length, Some, None, Option}
 use Rattle.std.specs.List.{AllByRecursion}
 use Rattle.orders.specs.Facts.{Effects, Good, Wanting}
+use Rattle.orders.specs.Lists.{listed, paired}
 use Rattle.orders.specs.Sheets.{Outline}
 
 -- what a step needs, adds and deletes
@@ -17,16 +18,6 @@ pub record SmallSheet : Type 0 where
   pub blocks : List (ℕ × ℕ)
   pub start : List ℕ
   pub goal : List ℕ
-
--- whether n is one of the numbers
-abbrev pub listed : List ℕ → ℕ → Bool
-listed [] n = false
-listed (m ∷ ms) n = n == m || listed ms n
-
--- whether a and b are one of the pairs
-abbrev pub paired : List (ℕ × ℕ) → ℕ → ℕ → Bool
-paired [] a b = false
-paired (p ∷ ps) a b = (a == p.0 && b == p.1) || paired ps a b
 
 abbrev pub outline_of : SmallSheet → Outline
 outline_of s = record { size = length s.steps; tied = paired s.ties; block = paired s.blocks }
