@@ -1,16 +1,17 @@
 -- Which positions are open and which orders are running orders, by tests that compute.
-use Rattle.std.proofs.Common.{◌≡◌, ℕ, zero, suc, ◌+◌, ◌<◌, Bool, true, false, not, ◌&&◌, ◌||◌, eqb, ltb, leb, List, [], ◌∷◌, ◌++◌, length, get_or, take, Decides, sym, refl, ap, ◌∙◌, subst, ⊎_elim, arith, take-suc}
+use Rattle.std.proofs.Common.{◌≡◌, ℕ, zero, suc, ◌+◌, ◌<◌, Bool, true, false, not, ◌&&◌, ◌||◌, eqb, ltb, List, [], ◌∷◌, ◌++◌, length, get_or, take, Decides, sym, refl, ap, ◌∙◌, subst, ⊎_elim, arith, take-suc}
 use Rattle.std.proofs.lemmas.List.{length_push, take_all}
-use Rattle.std.proofs.lemmas.Bool.{and_from, and_parts, both_ways, cases_Bool, eqb-true, false≢true, le-ltb, leb-true, lt-ltb, ltb-false, ltb-true, not_from_false, not-true, or_cases, or_left, or_right}
+use Rattle.std.proofs.lemmas.Bool.{and_from, and_parts, both_ways, cases_Bool, eqb-true, false≢true, le-ltb, lt-ltb, ltb-false, ltb-true, not_from_false, not-true, or_cases, or_left, or_right}
 use Rattle.orders.proofs.Below.{below_is}
 use Rattle.orders.proofs.DrivingOrders.{driving_ends_running, running_is_driven}
+use Rattle.orders.proofs.EditRuns.{inside_is, is_inside}
+use Rattle.orders.proofs.Tested.{all_below, below_at}
 use Rattle.orders.specs.Check.{inside, some_below}
 use Rattle.orders.specs.Driving.{Driven, Lacks, Open}
 use Rattle.orders.specs.Running.{Has, RunningOrder, place}
 use Rattle.orders.specs.Sheets.{Inside, Outline, Rules}
 use Rattle.smallsheets.specs.Rows.{among, same_list}
-use Rattle.smallsheets.proofs.Fitting.{all_below, below_at, lists_same}
-use Rattle.smallsheets.proofs.KeptRules.{is_inside}
+use Rattle.smallsheets.proofs.Fitting.{lists_same}
 
 abbrev has : List ℕ → ℕ → Bool
 has done x = ltb (place x done) (length done)
@@ -40,9 +41,6 @@ implied b c h t = ⊎_elim (λ n. absurd (both_ways b (not-true b n) t)) (λ x. 
 implies : (b c : Bool) → (b ≡ true → c ≡ true) → (not b || c) ≡ true
 implies b c h = ⊎_elim (λ t. or_right _ _ (h t)) (λ f. or_left _ _ (not_from_false b f)) (cases_Bool b)
 
-inside_is : (a b x : ℕ) → inside a b x ≡ true → Inside a b x
-inside_is a b x e = let p = and_parts (leb a x) (leb x b) e in (leb-true a x p.0, leb-true x b p.1)
-
 lacks_is : (done : List ℕ) (x : ℕ) → not (has done x) ≡ true → Lacks done x
 lacks_is done x h = ltb-false _ _ (not-true _ h)
 
@@ -55,8 +53,8 @@ module _ (s : Outline) (rules : Rules s) (done : List ℕ) where
   part_done a b x y block in-x in-y h l =
       let low = rules.proper a b block in
       and_from _ _
-      ((below_is (λ x. inside a b x && has done x) s.size).1 (x, omega arith, and_from _ _ (is_inside a b x in-x) (lt-ltb _ _ h)))
-      ((below_is (λ y. inside a b y && not (has done y)) s.size).1 (y, omega arith, and_from _ _ (is_inside a b y in-y) (is_lacking done y l)))
+      ((below_is (λ x. inside a b x && has done x) s.size).1 (x, omega arith, and_from _ _ (inside_is a b x in-x) (lt-ltb _ _ h)))
+      ((below_is (λ y. inside a b y && not (has done y)) s.size).1 (y, omega arith, and_from _ _ (inside_is a b y in-y) (is_lacking done y l)))
 
   open_is : (p : ℕ) → is_open s done p ≡ true → Open s done p
   open_is p t =
@@ -70,7 +68,7 @@ module _ (s : Outline) (rules : Rules s) (done : List ℕ) where
         entered = λ a b x y block in-x in-y h l.
             let low = rules.proper a b block in
             let cell = implied (s.block a b) _ (below_at s.size _ (below_at s.size _ w.1 a (omega arith)) b low.1) block in
-            inside_is a b p (⊎_elim (λ i. i) (λ n. absurd (both_ways _ (not-true _ n) (part_done a b x y block in-x in-y h l))) (or_cases (inside a b p) _ cell));
+            is_inside a b p (⊎_elim (λ i. i) (λ n. absurd (both_ways _ (not-true _ n) (part_done a b x y block in-x in-y h l))) (or_cases (inside a b p) _ cell));
       }
 
   is_open_where : (p : ℕ) → Open s done p → is_open s done p ≡ true
@@ -89,7 +87,7 @@ module _ (s : Outline) (rules : Rules s) (done : List ℕ) where
           let y = (below_is (λ y. inside a b y && not (has done y)) s.size).0 both.1 in
           let u = and_parts (inside a b x.0) (has done x.0) x.2 in
           let v = and_parts (inside a b y.0) (not (has done y.0)) y.2 in
-          or_left _ _ (is_inside a b p (o.entered a b x.0 y.0 block (inside_is a b x.0 u.0) (inside_is a b y.0 v.0) (ltb-true _ _ u.1) (lacks_is done y.0 v.1)))
+          or_left _ _ (inside_is a b p (o.entered a b x.0 y.0 block (is_inside a b x.0 u.0) (is_inside a b y.0 v.0) (ltb-true _ _ u.1) (lacks_is done y.0 v.1)))
 
   pub decides_open : (p : ℕ) → Decides (is_open s done p) (Open s done p)
   decides_open p = (open_is p, is_open_where p)

@@ -1,49 +1,16 @@
 -- Tests that two answers or two sheets are the same.
-use Rattle.std.proofs.Common.{◌≡◌, ℕ, zero, suc, ◌<◌, ◌≤◌, Bool, true, false, not, ◌&&◌, eqb, ltb, ◌⊎◌, List, [], ◌∷◌, sym, refl, ap, ◌∙◌, inl, inr, ⊎_elim, arith}
-use Rattle.std.proofs.lemmas.Bool.{and_parts, cases_eq, cases_lt, eqb-true, false≢true, ltb-true, not-true, or_cases}
+use Rattle.std.proofs.Common.{◌≡◌, ℕ, ◌<◌, ◌≤◌, Bool, true, false, ◌&&◌, eqb, ◌⊎◌, List, [], ◌∷◌, sym, refl, ap, ◌∙◌, inl, inr, ⊎_elim, arith}
+use Rattle.std.proofs.lemmas.Bool.{and_parts, cases_lt, eqb-true, false≢true}
 use Rattle.orders.proofs.Below.{refuted}
+use Rattle.orders.proofs.Tested.{alike, alike_same, all_below, all_pairs, below_at, pair_at, rises, two_below}
+use Rattle.orders.specs.Lists.{paired}
 use Rattle.sheet.proofs.SheetRules.{sheet_rules}
 use Rattle.sheet.specs.Sheets.{actions, outline}
 use Rattle.sheet.specs.declared.sheet.Sheet.{Sheet}
 use Rattle.smallsheets.specs.Rows.{Answer, same_list}
 use Rattle.smallsheets.specs.Rows.Answer.{accepted, refused}
-use Rattle.smallsheets.specs.Small.{IsSheet, SmallSheet, paired}
+use Rattle.smallsheets.specs.Small.{IsSheet, SmallSheet}
 use Rattle.smallsheets.proofs.Views.{Page, page_of}
-
--- a test of every pair, and of every number below n
-abbrev pub all_pairs : (ℕ → ℕ → Bool) → List (ℕ × ℕ) → Bool
-all_pairs test [] = true
-all_pairs test (p ∷ ps) = test p.0 p.1 && all_pairs test ps
-
-abbrev pub all_below : ℕ → (ℕ → Bool) → Bool
-all_below zero test = true
-all_below (suc n) test = test n && all_below n test
-
-same_pair : (test : ℕ → ℕ → Bool) (a b c d : ℕ) → (eqb a c && eqb b d) ≡ true → test c d ≡ true → test a b ≡ true
-same_pair test a b c d e t =
-    let x = eqb-true a c (and_parts (eqb a c) (eqb b d) e).0 in
-    let y = eqb-true b d (and_parts (eqb a c) (eqb b d) e).1 in
-    rw (x, y) t
-
-pub pair_at : (test : ℕ → ℕ → Bool) (ps : List (ℕ × ℕ)) (a b : ℕ) → all_pairs test ps ≡ true → paired ps a b ≡ true → test a b ≡ true
-pair_at test [] a b t h = absurd (false≢true h)
-pair_at test (p ∷ ps) a b t h =
-    let both = and_parts (test p.0 p.1) (all_pairs test ps) t in
-    ⊎_elim (λ here. same_pair test a b p.0 p.1 here both.0) (λ there. pair_at test ps a b both.1 there) (or_cases (eqb a p.0 && eqb b p.1) (paired ps a b) h)
-
-pub below_at : (n : ℕ) (test : ℕ → Bool) → all_below n test ≡ true → (k : ℕ) → k < n → test k ≡ true
-below_at zero test t k h = absurd (omega arith)
-below_at (suc n) test t k h =
-    let both = and_parts (test n) (all_below n test) t in
-    ⊎_elim (λ e. rw e both.0) (λ ne. below_at n test both.1 k (omega arith)) (cases_eq k n)
-
-abbrev pub alike : Bool → Bool → Bool
-alike true c = c
-alike false c = not c
-
-pub alike_same : (b c : Bool) → alike b c ≡ true → b ≡ c
-alike_same true c e = sym e
-alike_same false c e = sym (not-true c e)
 
 pub lists_same : (xs ys : List ℕ) → same_list xs ys ≡ true → xs ≡ ys
 lists_same [] [] h = refl
@@ -70,12 +37,6 @@ answers_same (refused k values) (refused l others) h =
     let e = eqb-true k l both.0 in
     let f = lists_same values others both.1 in
     cc
-
-abbrev pub rises : ℕ → ℕ → ℕ → Bool
-rises n i j = ltb i j && ltb j n
-
-pub two_below : (i j n : ℕ) → rises n i j ≡ true → (i < j) × (j < n)
-two_below i j n e = let p = and_parts (ltb i j) (ltb j n) e in (ltb-true i j p.0, ltb-true j n p.1)
 
 -- the relation has just these pairs
 abbrev agree : ℕ → (ℕ → ℕ → Bool) → List (ℕ × ℕ) → Bool

@@ -5,7 +5,9 @@ use Rattle.std.specs.List.{AllByRecursion}
 use Rattle.edits.specs.Applying.{Applies}
 use Rattle.shaping.specs.declared.fault.EditFault.{EditFault}
 use Rattle.orders.specs.Changes.{Change}
+use Rattle.orders.proofs.Tested.{alike, alike_same, all_below, all_low, below_at, low_at}
 use Rattle.orders.specs.Driving.{Open}
+use Rattle.orders.specs.Lists.{listed}
 use Rattle.orders.specs.Running.{RunningOrder}
 use Rattle.orders.specs.Sheets.{Outline, Rules}
 use Rattle.sheet.proofs.Laid.{row_rules}
@@ -19,15 +21,15 @@ use Rattle.task.specs.declared.tasks.Task.{Task}
 use Rattle.smallsheets.specs.Rows.{Answer, Holds, Row, among, different, judged, said}
 use Rattle.smallsheets.specs.Rows.Answer.{accepted, refused}
 use Rattle.smallsheets.specs.Rows.Row.{check, edit, lay, next, not_laid, runs}
-use Rattle.smallsheets.specs.Small.{ArePrices, IsSheet, IsTask, SmallSheet, SmallTariff, SmallTask, listed}
+use Rattle.smallsheets.specs.Small.{ArePrices, IsSheet, IsTask, SmallSheet, SmallTariff, SmallTask}
 use Rattle.smallsheets.specs.Small.SmallTariff.{book}
 use Rattle.smallsheets.specs.Table.{EveryRowHolds, table}
 use Rattle.smallsheets.proofs.Answering.{answer_to, asked_by, given, left, unless}
 use Rattle.smallsheets.proofs.Driving.{all_driven, covered, decides_open, decides_running, is_open}
-use Rattle.smallsheets.proofs.Fitting.{alike, alike_same, all_below, answers_same, below_at, fits, fits_is, same_answer}
+use Rattle.smallsheets.proofs.Fitting.{answers_same, fits, fits_is, same_answer}
 use Rattle.smallsheets.proofs.Judging.{judge, judge_passes, judge_refused}
 use Rattle.smallsheets.proofs.MakingSheets.{fits_sheet, made_sheet, small_rules}
-use Rattle.smallsheets.proofs.MakingTasks.{all_low, fits_tariff, fits_task, low_at, made_prices, made_task}
+use Rattle.smallsheets.proofs.MakingTasks.{fits_tariff, fits_task, made_prices, made_task}
 use Rattle.smallsheets.proofs.Views.{Page, View, outline_of, page_of, same_page, same_view, small_page, small_view, view_of}
 
 -- what the check says of a page

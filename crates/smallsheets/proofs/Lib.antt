@@ -3,7 +3,6 @@ pub mod Driving
 pub mod Fitting
 pub mod Holding
 pub mod Judging
-pub mod KeptRules
 pub mod Lowest
 pub mod MakingSheets
 pub mod MakingTasks

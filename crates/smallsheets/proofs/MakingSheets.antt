@@ -3,14 +3,14 @@ use Rattle.std.proofs.Common.{◌≡◌, ℕ, zero, suc, ◌+◌, ◌<◌, ◌�
 use Rattle.std.proofs.lemmas.Bool.{and_from, and_parts, cases_lt, leb-true, lt-ltb, ltb-true}
 use Rattle.shaping.proofs.Outlines.{outlines_same, rules_kept}
 use Rattle.orders.proofs.Below.{refuted}
+use Rattle.orders.proofs.Tested.{all_low, all_pairs, keeps_rules, pair_at, rises, rising, rules_from_test, two_below}
+use Rattle.orders.specs.Lists.{listed, paired}
 use Rattle.orders.specs.Sheets.{Rules}
 use Rattle.sets.specs.declared.bits.BitSet.{BitSet}
 use Rattle.sheet.specs.Rows.{in_row, outlined}
 use Rattle.sheet.specs.declared.sheet.Sheet.{Sheet}
-use Rattle.smallsheets.specs.Small.{IsSheet, SmallSheet, listed, paired}
-use Rattle.smallsheets.proofs.Fitting.{all_pairs, pair_at, rises, two_below}
-use Rattle.smallsheets.proofs.KeptRules.{keeps_rules, rising, rules_from_test}
-use Rattle.smallsheets.proofs.MakingTasks.{all_low, made_list, made_set}
+use Rattle.smallsheets.specs.Small.{IsSheet, SmallSheet}
+use Rattle.smallsheets.proofs.MakingTasks.{made_list, made_set}
 use Rattle.smallsheets.proofs.Views.{outline_of}
 
 -- what i is paired with
@@ -71,17 +71,17 @@ get_or_low n l (x ∷ xs) t (suc i) = get_or_low n l xs (and_parts (ltb x n) (al
 
 -- whether there is a sheet for the small one
 abbrev pub fits_sheet : SmallSheet → Bool
-fits_sheet small = keeps_rules small && (leb (length small.actions) 64 && all_low 128 small.actions)
+fits_sheet small = keeps_rules (length small.actions) small.ties small.blocks && (leb (length small.actions) 64 && all_low 128 small.actions)
 
 pub small_rules : (small : SmallSheet) → fits_sheet small ≡ true → Rules (outline_of small)
-small_rules small t = rules_from_test small (and_parts (keeps_rules small) _ t).0
+small_rules small t = rules_from_test _ small.ties small.blocks (and_parts (keeps_rules (length small.actions) small.ties small.blocks) _ t).0
 
 pub made_sheet : (small : SmallSheet) → fits_sheet small ≡ true → (sheet : Sheet) × IsSheet small sheet
 made_sheet small t =
-    let u = and_parts (keeps_rules small) _ t in
+    let u = and_parts (keeps_rules (length small.actions) small.ties small.blocks) _ t in
     let v = and_parts (leb (length small.actions) 64) (all_low 128 small.actions) u.1 in
     let l = leb-true _ _ v.0 in
-    let (rises-ties, rises-blocks) = rising small u.0 in
+    let (rises-ties, rises-blocks) = rising _ small.ties small.blocks u.0 in
     let (steps, has) = made_list small.actions 128 (omega arith) 0 in
     let (behind, ties, tied) = made_rows _ l small.ties rises-ties in
     let (blocks, groups, block) = made_rows _ l small.blocks rises-blocks in
@@ -91,7 +91,7 @@ made_sheet small t =
         behind = record { rows = behind; size = ties };
         blocks = record { rows = blocks; size = groups };
         numbers = λ i. subst (λ (xs : List ℕ). get_or xs i 0 < 128) (sym has) (get_or_low 128 (omega arith) small.actions v.1 i);
-        rules = rules_kept _ (outline_of small) same (rules_from_test small u.0);
+        rules = rules_kept _ (outline_of small) same (small_rules small t);
       },
       record { same_actions = has; same_ties = tied; same_blocks = block },
     )

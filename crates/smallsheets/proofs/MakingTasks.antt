@@ -1,10 +1,12 @@
 -- There is a task for every small task that fits, and there are prices for every small tariff.
-use Rattle.std.proofs.Common.{◌≡◌, ℕ, zero, suc, ◌-◌, ◌/◌, ◌%◌, ◌^◌, ◌<◌, ◌≤◌, Bool, true, ◌&&◌, eqb, ltb, leb, List, [], ◌∷◌, ◌++◌, length, get_or, replicate, sym, refl, ap, ◌∙◌, subst, ⊎_elim, arith}
+use Rattle.std.proofs.Common.{◌≡◌, ℕ, zero, suc, ◌-◌, ◌/◌, ◌%◌, ◌^◌, ◌<◌, ◌≤◌, Bool, true, ◌&&◌, ltb, leb, List, [], ◌∷◌, ◌++◌, length, get_or, replicate, sym, refl, ap, ◌∙◌, subst, ⊎_elim, arith}
 use lib.Bits.{bit_or}
 use Rattle.std.proofs.lemmas.Nat.{or_lt, pow_below}
 use Rattle.std.proofs.lemmas.List.{length-append, length-replicate, take_all, take-append-le}
-use Rattle.std.proofs.lemmas.Bool.{and_parts, cases_lt, eqb-true, false≢true, leb-true, ltb-true, or_cases}
+use Rattle.std.proofs.lemmas.Bool.{and_parts, cases_lt, leb-true, ltb-true}
 use Rattle.orders.proofs.Below.{refuted}
+use Rattle.orders.proofs.Tested.{all_low, low_at}
+use Rattle.orders.specs.Lists.{listed}
 use Rattle.sets.proofs.Kept.{zeros_at}
 use Rattle.sets.proofs.Laws.{bit_one, bit-or, bit_same, bit_zero}
 use Rattle.sets.specs.Contents.{contents}
@@ -14,19 +16,8 @@ use Rattle.sets.specs.declared.list.ArrayVec.{ArrayVec}
 use Rattle.task.specs.Prices.{priced, touches}
 use Rattle.task.specs.declared.actions.Action.{Action}
 use Rattle.task.specs.declared.tasks.Task.{Task}
-use Rattle.smallsheets.specs.Small.{AreActions, ArePrices, IsAction, IsTask, SmallAction, SmallTariff, SmallTask, listed}
+use Rattle.smallsheets.specs.Small.{AreActions, ArePrices, IsAction, IsTask, SmallAction, SmallTariff, SmallTask}
 use Rattle.smallsheets.specs.Small.SmallTariff.{book, touch}
-
--- whether the numbers are below n
-abbrev pub all_low : ℕ → List ℕ → Bool
-all_low n [] = true
-all_low n (x ∷ xs) = ltb x n && all_low n xs
-
-pub low_at : (n : ℕ) (xs : List ℕ) (p : ℕ) → all_low n xs ≡ true → listed xs p ≡ true → p < n
-low_at n [] p t h = absurd (false≢true h)
-low_at n (x ∷ xs) p t h =
-    let both = and_parts (ltb x n) (all_low n xs) t in
-    ⊎_elim (λ e. omega (arith, eqb-true p x e, ltb-true x n both.0)) (λ e. low_at n xs p both.1 e) (or_cases (eqb p x) (listed xs p) h)
 
 -- the word with those bits
 abbrev word : List ℕ → ℕ

@@ -3,6 +3,7 @@ use Rattle.std.proofs.Common.{◌≡◌, ℕ, zero, suc, Bool, false, ◌&&◌, 
 use Rattle.std.specs.List.{slice_get}
 use Rattle.std.specs.Option.{option_flatten, option_map}
 use Rattle.orders.specs.Facts.{Effects}
+use Rattle.orders.specs.Lists.{listed, paired}
 use Rattle.orders.specs.Sheets.{Outline}
 use Rattle.sets.proofs.Laws.{tally_same}
 use Rattle.sets.specs.Contents.{contents}
@@ -14,7 +15,7 @@ use Rattle.sheet.specs.declared.sheet.Sheet.{Sheet}
 use Rattle.task.specs.Prices.{touched, touches}
 use Rattle.task.specs.declared.actions.Action.{Action}
 use Rattle.task.specs.declared.tasks.Task.{Task}
-use Rattle.smallsheets.specs.Small.{AreActions, ArePrices, IsAction, IsSet, IsSheet, IsTask, SmallAction, SmallSheet, SmallTariff, SmallTask, listed, paired}
+use Rattle.smallsheets.specs.Small.{AreActions, ArePrices, IsAction, IsSet, IsSheet, IsTask, SmallAction, SmallSheet, SmallTariff, SmallTask}
 use Rattle.smallsheets.specs.Small.SmallTariff.{book, touch}
 
 -- how many actions there are, what the steps of some numbers do, and what each number costs

@@ -5,13 +5,14 @@ use Rattle.shaping.specs.Faults.{number_of, values_of}
 use Rattle.shaping.specs.declared.fault.EditFault.{EditFault}
 use Rattle.orders.specs.Changes.{Change}
 use Rattle.orders.specs.Driving.{Open}
+use Rattle.orders.specs.Lists.{listed}
 use Rattle.orders.specs.Running.{RunningOrder}
 use Rattle.sheet.specs.Faults as sheets
 use Rattle.sheet.specs.Sheets.{outline}
 use Rattle.sheet.specs.Verdicts.{Checks, Lays}
 use Rattle.sheet.specs.declared.fault.SheetFault.{SheetFault}
 use Rattle.sheet.specs.declared.sheet.Sheet.{Sheet}
-use Rattle.smallsheets.specs.Small.{ArePrices, IsSheet, IsTask, SmallSheet, SmallTariff, SmallTask, listed}
+use Rattle.smallsheets.specs.Small.{ArePrices, IsSheet, IsTask, SmallSheet, SmallTariff, SmallTask}
 
 -- accepted with a saving, or refused with a number and the values that the refusal names
 pub data Answer : Type 0 where

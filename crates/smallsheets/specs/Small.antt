@@ -1,5 +1,6 @@
 -- Tasks and sheets that are written out as lists of numbers, and the values of the program that are those.
-use Rattle.std.specs.Prelude.{◌≡◌, ℕ, Bool, false, ◌&&◌, ◌||◌, List, [], ◌∷◌, ◌==◌}
+use Rattle.std.specs.Prelude.{◌≡◌, ℕ, List, [], ◌∷◌}
+use Rattle.orders.specs.Lists.{listed, paired}
 use Rattle.sets.specs.Contents.{contents}
 use Rattle.sets.specs.Member.{member}
 use Rattle.sets.specs.declared.bits.BitSet.{BitSet}
@@ -8,16 +9,6 @@ use Rattle.sheet.specs.declared.sheet.Sheet.{Sheet}
 use Rattle.task.specs.Prices.{priced, touches}
 use Rattle.task.specs.declared.actions.Action.{Action}
 use Rattle.task.specs.declared.tasks.Task.{Task}
-
--- whether n is one of the numbers
-abbrev pub listed : List ℕ → ℕ → Bool
-listed [] n = false
-listed (m ∷ ms) n = n == m || listed ms n
-
--- whether a and b are one of the pairs
-abbrev pub paired : List (ℕ × ℕ) → ℕ → ℕ → Bool
-paired [] a b = false
-paired (p ∷ ps) a b = (a == p.0 && b == p.1) || paired ps a b
 
 pub record SmallAction : Type 0 where
   pub price : ℕ
