@@ -2,12 +2,12 @@
 use Rattle.std.proofs.Common.{◌≡◌, ℕ, ◌<◌, Bool, ◌&&◌, ◌||◌, eqb, ltb, List, [], ◌∷◌, ◌++◌, Ok, Err, Option, Result, MatchOption, arith}
 use Rattle.std.specs.Result.{result_ok}
 use Rattle.std.proofs.lemmas.Bool.Decides.{nat_tests}
+use Rattle.orders.specs.Lists.{listed}
 use Rattle.text.specs.Fields.{IsList}
 use Rattle.text.specs.Readers.{Left, NextGives, Reads}
 use Rattle.text.specs.declared.fault.FieldFault.{FieldFault}
 use Rattle.text.specs.declared.list.Entries.{Entries}
 use Rattle.text.proofs.Lists.{reads_more}
-use Rattle.book.specs.Tasks.{among}
 use Rattle.book.specs.Weeks.{Known}
 use Rattle.book.proofs.Turns.{all_parts}
 
@@ -16,9 +16,9 @@ pub gave : (e e' : Entries) (r : Result (Option ℕ) FieldFault) (o : Option (Op
 gave e e' (Ok x) o same next = rw same next
 gave e e' (Err f) o same next = rw same (f, next)
 
-among_push : (ns : List ℕ) (n f : ℕ) → among (ns ++ n ∷ []) f ≡ (among ns f || eqb f n)
-among_push [] n f = grind (arith, nat_tests)
-among_push (m ∷ ns) n f = let e = among_push ns n f in grind (arith, nat_tests)
+listed_push : (ns : List ℕ) (n f : ℕ) → listed (ns ++ n ∷ []) f ≡ (listed ns f || eqb f n)
+listed_push [] n f = grind (arith, nat_tests)
+listed_push (m ∷ ns) n f = let e = listed_push ns n f in grind (arith, nat_tests)
 
 module _ (text done : List ℕ) (e e' : Entries) (n : ℕ) (so_far : Reads (IsList text) done e) (next : Reads (Left e) (n ∷ []) e') where
   pub next_known : (facts : ℕ) (list : List ℕ) → IsList text list → Known facts list → n < facts
@@ -28,5 +28,5 @@ module _ (text done : List ℕ) (e e' : Entries) (n : ℕ) (so_far : Reads (IsLi
       (all_parts _ done (n ∷ []) (all_parts _ (done ++ n ∷ []) r.0 whole).0).1.0
 
 -- one number more in a set
-pub inserted : (had has : Bool) (ns : List ℕ) (n f : ℕ) → n < 64 → had ≡ among ns f → has ≡ (had || (eqb f n && ltb n 64)) → has ≡ among (ns ++ n ∷ []) f
-inserted had has ns n f h a b = let p = among_push ns n f in grind (arith, nat_tests)
+pub inserted : (had has : Bool) (ns : List ℕ) (n f : ℕ) → n < 64 → had ≡ listed ns f → has ≡ (had || (eqb f n && ltb n 64)) → has ≡ listed (ns ++ n ∷ []) f
+inserted had has ns n f h a b = let p = listed_push ns n f in grind (arith, nat_tests)

@@ -1,5 +1,6 @@
 -- The task that a week's book describes.
-use Rattle.std.specs.Prelude.{◌≡◌, ℕ, Bool, false, ◌||◌, List, [], ◌∷◌, length, ◌==◌}
+use Rattle.std.specs.Prelude.{◌≡◌, ℕ, List, [], ◌∷◌, length}
+use Rattle.orders.specs.Lists.{listed}
 use Rattle.sets.specs.Contents.{contents}
 use Rattle.sets.specs.Member.{member}
 use Rattle.sets.specs.declared.bits.BitSet.{BitSet}
@@ -8,14 +9,9 @@ use Rattle.task.specs.declared.tasks.Task.{Task}
 use Rattle.records.specs.Lines.{Deed}
 use Rattle.book.specs.Weeks.{Week}
 
--- whether f is one of the numbers
-abbrev pub among : List ℕ → ℕ → Bool
-among [] f = false
-among (n ∷ ns) f = f == n || among ns f
-
 -- the set has just these facts
 abbrev pub Has : BitSet 1 → List ℕ → Type 0
-Has set facts = (f : ℕ) → member set.words f ≡ among facts f
+Has set facts = (f : ℕ) → member set.words f ≡ listed facts f
 
 -- the action is the one that the book writes so
 pub record Describes (d : Deed) (a : Action) : Type 0 where

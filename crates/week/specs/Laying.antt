@@ -3,10 +3,10 @@ use Rattle.std.specs.Prelude.{ℕ, Bool, false, List, length, Some, None, Option
 use Rattle.std.specs.List.{slice_get}
 use Rattle.std.specs.Option.{option_flatten, option_map}
 use Rattle.orders.specs.Facts.{Effects}
+use Rattle.orders.specs.Lists.{listed}
 use Rattle.orders.specs.Sheets.{Outline}
 use Rattle.sheet.specs.Verdicts.{in_a_row}
 use Rattle.records.specs.Lines.{Deed}
-use Rattle.book.specs.Tasks.{among}
 use Rattle.book.specs.Weeks.{Week}
 
 -- the action of the step at p, as the book writes it
@@ -16,15 +16,15 @@ deed_at w p = option_flatten (option_map (slice_get w.deeds) (slice_get w.steps 
 -- whether that set of the action has f; there is nothing where there is no action
 abbrev pub writes_fact : (Deed → List ℕ) → Option Deed → ℕ → Bool
 writes_fact part None f = false
-writes_fact part (Some d) f = among (part d) f
+writes_fact part (Some d) f = listed (part d) f
 
 abbrev pub week_effects : Week → Effects
 week_effects w = record {
   needs = λ p. writes_fact (λ d. d.needs) (deed_at w p);
   adds = λ p. writes_fact (λ d. d.adds) (deed_at w p);
   deletes = λ p. writes_fact (λ d. d.deletes) (deed_at w p);
-  start = among w.starts;
-  goal = among w.goals;
+  start = listed w.starts;
+  goal = listed w.goals;
 }
 
 -- the plan's steps, one behind the other
