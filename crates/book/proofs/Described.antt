@@ -1,5 +1,10 @@
 -- Actions that a book describes, one for one.
-use Rattle.std.proofs.Common.{◌≡◌, suc, List, [], ◌∷◌, ◌++◌, length, refl, ap}
+use Rattle.std.proofs.Common.{◌≡◌, ℕ, suc, ltb, List, [], ◌∷◌, ◌++◌, length, Option, refl, ap, arith}
+use Rattle.std.proofs.lemmas.Bool.Decides.{nat_tests}
+use Rattle.std.proofs.lemmas.Grind.{common_steps}
+use Rattle.std.proofs.lemmas.Option.{slice_get_cases}
+use Rattle.std.specs.List.{slice_get}
+use Rattle.std.specs.Option.{is_some}
 use Rattle.sets.specs.Contents.{contents}
 use Rattle.task.specs.declared.actions.Action.{Action}
 use Rattle.task.specs.declared.tasks.Task.{Task}
@@ -15,6 +20,10 @@ described_length (d ∷ ds) (a ∷ actions) h = ap suc (described_length ds acti
 
 pub deeds_count : {w : Week} {task : Task} → TaskOf w task → length w.deeds ≡ length (contents task.actions)
 deeds_count {w = w} {task = task} t = described_length w.deeds (contents task.actions) t.actions
+
+-- the book has an action just where the task does
+pub deed_there : {w : Week} {task : Task} → TaskOf w task → (a : ℕ) (o : Option Action) → o ≡ slice_get (contents task.actions) a → is_some o ≡ ltb a (length w.deeds)
+deed_there {task = task} t a o e = let count = deeds_count t in let there = slice_get_cases (contents task.actions) a in grind (arith, common_steps, nat_tests)
 
 pub described_push : (ds : List Deed) (actions : List Action) (d : Deed) (a : Action) → DescribeAll ds actions → Describes d a → DescribeAll (ds ++ d ∷ []) (actions ++ a ∷ [])
 described_push [] [] d a h one = (one, tt)

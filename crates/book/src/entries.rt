@@ -1,5 +1,5 @@
 // The numbers of a set or a list that the reader has found to be one.
-ghost use Rattle.std.specs.Prelude.{◌≡◌, ℕ, ◌<◌, ◌≤◌, List, length, MatchBool, MatchOption};
+ghost use Rattle.std.specs.Prelude.{ℕ, ◌<◌, ◌≤◌, List, length, MatchBool, MatchOption};
 ghost use Rattle.text.specs.Fields.{IsList};
 ghost use Rattle.book.specs.Tasks.{Has};
 ghost use Rattle.book.specs.Weeks.{Known};

@@ -22,7 +22,7 @@ pub enum TurnFault {
     End,
 }
 
-// By hand, as the two below: the contracts name the fault that a `?` makes.
+// By hand: std derives no `From`, and thiserror's derive asks for messages, which these faults do not have.
 impl From<Full> for TurnFault {
     ghost from_gives = { λ _ r. r ≡ no_room };
 
@@ -46,6 +46,7 @@ pub enum LoadFault {
     Turn(At<TurnFault>),
 }
 
+// By hand for the same reason; and a derived one would have no contract, while `Refused` names the fault that a `?` makes.
 impl From<At<RecordFault>> for LoadFault {
     ghost from_gives = { λ e r. r ≡ Form e };
 
@@ -54,6 +55,7 @@ impl From<At<RecordFault>> for LoadFault {
     }
 }
 
+// By hand, as for the fault of a line's form: `Refused` names this one too.
 impl From<At<TurnFault>> for LoadFault {
     ghost from_gives = { λ e r. r ≡ Turn e };
 

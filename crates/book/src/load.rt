@@ -2,9 +2,8 @@
 ghost use Rattle.book.specs.Loading.{Accepted, Loads, Refused, RoundTrip};
 ghost use Rattle.std.specs.Prelude.{◌≡◌, MatchResult};
 
-use crate::fault::{At, LoadFault, TurnFault, placed};
+use crate::fault::{LoadFault, placed};
 use crate::loader::Loader;
-use crate::stage::Stage;
 use records::reader::Reader;
 use task::{Plan, Task};
 
@@ -25,12 +24,7 @@ fn gather(book: &[u8]) -> Result<Loader, LoadFault>
         placed(line, loader.accept(next))?;
         line = reader.line();
     }
-    if loader.stage < Stage::Steps {
-        return Err(LoadFault::Turn(At {
-            line,
-            fault: TurnFault::End,
-        }));
-    }
+    placed(line, loader.end())?;
     Ok(loader)
 }
 

@@ -1,5 +1,5 @@
 // The task and the plan of the lines read so far, and one record more, if it may follow those before it.
-ghost use Rattle.std.specs.Prelude.{◌≡◌, ℕ, List, MatchResult};
+ghost use Rattle.std.specs.Prelude.{◌≡◌, ℕ, ◌<◌, ◌≤◌, List, MatchResult};
 ghost use Rattle.text.specs.Fields.{IsList};
 ghost use Rattle.book.specs.Joining.{Holds, Joins};
 ghost use Rattle.orders.specs.Changes.{Change};
@@ -48,6 +48,16 @@ impl Loader {
             Record::Step(action) => self.step(action),
             Record::Edit(edit) => self.edit(edit),
         }
+    }
+
+    // The text ends here, which it may from the goal line on.
+    pub fn end(&self) -> Result<(), TurnFault>
+        ensures { MatchResult result (λ _. 3 ≤ rank_of self.now.stage) (λ _. rank_of self.now.stage < 3) }
+    {
+        if self.stage < Stage::Steps {
+            return Err(TurnFault::End);
+        }
+        Ok(())
     }
 
     fn fact(&mut self) -> Result<(), TurnFault>
@@ -120,9 +130,7 @@ impl Loader {
         if self.stage != Stage::Steps {
             return Err(TurnFault::Sequence);
         }
-        if action as usize >= self.task.actions.len() {
-            return Err(TurnFault::Unknown);
-        }
+        self.task.action(action).ok_or(TurnFault::Unknown)?;
         self.plan.push(action).map_err(|_| TurnFault::Full)
     }
 

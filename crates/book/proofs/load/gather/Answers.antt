@@ -1,4 +1,4 @@
-use Rattle.std.proofs.Common.{◌<◌, ◌≤◌, arith, rules}
+use Rattle.std.proofs.Common.{◌<◌, ◌≤◌, MatchResult, arith}
 use Rattle.std.proofs.lemmas.Result.{err_from_is_err_and}
 use Rattle.records.specs.Lines.{Line, Proper}
 use Rattle.records.specs.Reading.{Next}
@@ -31,14 +31,15 @@ returns-in_err-placed c =
     let j = behind (λ r. (l : Line) → Proper l → Says c.in-Some.next l → Joins c.loop-next.loader l r c.accept.new.self) _ c.accept.result _ c.in_err-placed.ensures c.accept.ensures in
     rw (p.1, p.2) (omega arith, rw j.2 (out_of_turn c.loop-next.invariant c.next.new.self c.in-Some.next n c.accept.new.self j.0 j.1))
 
-pub returns-then-lt : goal.returns-then-lt
-returns-then-lt c =
+pub returns-in_err-placed-2 : goal.returns-in_err-placed-2
+returns-in_err-placed-2 c =
+    let p = err_from_is_err_and c.from_residual-in_err-placed-2.result c.from_residual-in_err-placed-2.ensures.1 in
     let n = rw c.in_default.is at (behind (λ r. Next c.loop-next.reader r c.next.new.self) _ c.next.result _ c.in_ok-next.ensures c.next.ensures) in
-    let early : rank_of c.loop-next.loader.stage < 3 = search rules in
-    (omega arith, unfinished c.loop-next.invariant c.next.new.self n early)
+    let early = behind (λ r. MatchResult r (λ _. 3 ≤ rank_of c.loop-next.loader.stage) (λ _. rank_of c.loop-next.loader.stage < 3)) _ c.end.result _ c.in_err-placed-2.ensures c.end.ensures in
+    rw (p.1, p.2) (omega arith, rw early.2 (unfinished c.loop-next.invariant c.next.new.self n early.1))
 
 pub returns : goal.returns
 returns c =
     let n = rw c.in_default.is at (behind (λ r. Next c.loop-next.reader r c.next.new.self) _ c.next.result _ c.in_ok-next.ensures c.next.ensures) in
-    let late : 3 ≤ rank_of c.loop-next.loader.stage = search rules in
+    let late = behind (λ r. MatchResult r (λ _. 3 ≤ rank_of c.loop-next.loader.stage) (λ _. rank_of c.loop-next.loader.stage < 3)) _ c.end.result _ c.in_ok-placed-2.ensures c.end.ensures in
     finished c.loop-next.invariant c.next.new.self n late (omega arith)
