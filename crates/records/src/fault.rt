@@ -14,7 +14,7 @@ pub enum RecordFault {
     Field(FieldFault),
 }
 
-// By hand: what would derive it wants a message for each case, and none is shown.
+// By hand: std derives no `From`, and thiserror's derive asks for messages, which these faults do not have.
 impl From<FieldFault> for RecordFault {
     ghost from_gives = { λ e r. r ≡ Field e };
 

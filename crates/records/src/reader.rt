@@ -6,7 +6,7 @@ use crate::line::read_record;
 use crate::record::Record;
 use text::cut;
 
-// What stands before `cursor` is read, and was `lines` lines.
+// What stands before `cursor` is read, and was `lines` lines. A cursor in a borrowed text is the form that the project asks for.
 #[derive(Clone, Copy)]
 pub struct Reader<'a> {
     book: &'a [u8],

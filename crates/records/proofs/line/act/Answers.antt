@@ -1,55 +1,47 @@
 -- A line that is an action's is read field by field: where a field is refused, what is behind the fields before it is no such text.
 use Rattle.std.proofs.Common.{◌≡◌, ℕ, List, decimal, sym, refl}
 use Rattle.std.proofs.lemmas.Result.{MatchResult-from_err}
-use Rattle.text.specs.Fields.{commas}
-use Rattle.records.specs.Lines.{Deed}
+use Rattle.text.specs.Fields.{IsName, Small, commas}
+use Rattle.records.specs.Lines.{Deed, IsSetText, ProperDeed, deed_text}
 use Rattle.records.specs.Tabs.{◌·◌}
 use Rattle.records.proofs.FirstField.{past_name, past_number, past_set}
 use Rattle.records.proofs.line.act.Goals as goal
 
+-- in a deed's own text, what is behind each field that was read is the rest of it
+module _ (bs : List ℕ) (d : Deed) (p : ProperDeed d) (e : bs ≡ deed_text d) (n r : List ℕ) (name : IsName n × (bs ≡ n · r)) where
+  behind_name : r ≡ decimal d.price · commas d.needs · commas d.adds · commas d.deletes
+  behind_name = (past_name _ _ _ d.name _ name.0 p.name name.1 e).1
+
+  module _ (k : ℕ) (r′ : List ℕ) (price : Small k × (r ≡ decimal k · r′)) where
+    behind_price : r′ ≡ commas d.needs · commas d.adds · commas d.deletes
+    behind_price = (past_number _ _ _ d.price _ price.0 p.price price.1 behind_name).1
+
+    behind_needs : (s r″ : List ℕ) → IsSetText s × (r′ ≡ s · r″) → r″ ≡ commas d.adds · commas d.deletes
+    behind_needs s r″ needs = (past_set _ _ _ (commas d.needs) _ needs.0 (d.needs, p.needs, refl) needs.1 behind_price).1
+
 pub returns-in_err-name : goal.returns-in_err-name
-returns-in_err-name c =
-    MatchResult-from_err _ _ _ c.from_residual.ensures.0 (λ _ d p e. c.in_err-name.ensures.1 (d.name, _) (p.name, e))
+returns-in_err-name c = MatchResult-from_err _ _ _ c.from_residual.ensures.0 (λ _ d p e. c.in_err-name.ensures.1 (d.name, _) (p.name, e))
 
 pub returns-in_err-price : goal.returns-in_err-price
 returns-in_err-price c =
-    MatchResult-from_err _ _ _ c.from_residual-in_err-price.ensures.0 (λ _ d p e.
-    let n = c.in_ok-name.ensures in
-    let e₁ = (past_name _ _ _ d.name _ n.0 p.name n.1 e).1 in
-    c.in_err-price.ensures.1 (d.price, _) (p.price, e₁))
+    MatchResult-from_err _ _ _ c.from_residual-in_err-price.ensures.0 (λ _ d p e. c.in_err-price.ensures.1 (d.price, _) (p.price, behind_name _ d p e _ _ c.in_ok-name.ensures))
 
 pub returns-in_err-needs : goal.returns-in_err-needs
 returns-in_err-needs c =
     MatchResult-from_err _ _ _ c.from_residual-in_err-needs.ensures.0 (λ _ d p e.
-    let n = c.in_ok-name.ensures in
-    let e₁ = (past_name _ _ _ d.name _ n.0 p.name n.1 e).1 in
-    let q = c.in_ok-price.ensures in
-    let e₂ = (past_number _ _ _ d.price _ q.0 p.price q.1 e₁).1 in
-    c.in_err-needs.ensures.1 (commas d.needs, _) ((d.needs, p.needs, refl), e₂))
+    c.in_err-needs.ensures.1 (commas d.needs, _) ((d.needs, p.needs, refl), behind_price _ d p e _ _ c.in_ok-name.ensures _ _ c.in_ok-price.ensures))
 
 pub returns-in_err-adds : goal.returns-in_err-adds
 returns-in_err-adds c =
     MatchResult-from_err _ _ _ c.from_residual-in_err-adds.ensures.0 (λ _ d p e.
-    let n = c.in_ok-name.ensures in
-    let e₁ = (past_name _ _ _ d.name _ n.0 p.name n.1 e).1 in
-    let q = c.in_ok-price.ensures in
-    let e₂ = (past_number _ _ _ d.price _ q.0 p.price q.1 e₁).1 in
-    let s = c.in_ok-needs.ensures in
-    let e₃ = (past_set _ _ _ (commas d.needs) _ s.0 (d.needs, p.needs, refl) s.1 e₂).1 in
-    c.in_err-adds.ensures.1 (commas d.adds, _) ((d.adds, p.adds, refl), e₃))
+    c.in_err-adds.ensures.1 (commas d.adds, _) ((d.adds, p.adds, refl), behind_needs _ d p e _ _ c.in_ok-name.ensures _ _ c.in_ok-price.ensures _ _ c.in_ok-needs.ensures))
 
 pub returns-in_err-deletes : goal.returns-in_err-deletes
 returns-in_err-deletes c =
     MatchResult-from_err _ _ _ c.from_residual-in_err-deletes.ensures.0 (λ _ d p e.
-    let n = c.in_ok-name.ensures in
-    let e₁ = (past_name _ _ _ d.name _ n.0 p.name n.1 e).1 in
-    let q = c.in_ok-price.ensures in
-    let e₂ = (past_number _ _ _ d.price _ q.0 p.price q.1 e₁).1 in
-    let s = c.in_ok-needs.ensures in
-    let e₃ = (past_set _ _ _ (commas d.needs) _ s.0 (d.needs, p.needs, refl) s.1 e₂).1 in
     let t = c.in_ok-adds.ensures in
-    let e₄ = (past_set _ _ _ (commas d.adds) _ t.0 (d.adds, p.adds, refl) t.1 e₃).1 in
-    c.in_err-deletes.ensures.1 (commas d.deletes) (sym e₄, (d.deletes, p.deletes, refl)))
+    let last = (past_set _ _ _ (commas d.adds) _ t.0 (d.adds, p.adds, refl) t.1 (behind_needs _ d p e _ _ c.in_ok-name.ensures _ _ c.in_ok-price.ensures _ _ c.in_ok-needs.ensures)).1 in
+    c.in_err-deletes.ensures.1 (commas d.deletes) (sym last, (d.deletes, p.deletes, refl)))
 
 whole_deed : (bs n r₁ : List ℕ) (k : ℕ) (r₂ s r₃ t r₄ u ss ts us : List ℕ) → bs ≡ n · r₁ → r₁ ≡ decimal k · r₂ → r₂ ≡ s · r₃ → s ≡ commas ss → r₃ ≡ t · r₄ → t ≡ commas ts
     → u ≡ r₄ → u ≡ commas us → bs ≡ n · decimal k · commas ss · commas ts · commas us

@@ -1,26 +1,25 @@
-use Rattle.std.proofs.Common.{◌≡◌, ℕ, List, sym, refl, ◌∙◌, arith}
+use Rattle.std.proofs.Common.{◌≡◌, ℕ, ◌⊎◌, List, sym, refl, ◌∙◌, inl, inr, arith}
 use Rattle.std.proofs.lemmas.Result.{MatchResult-from_err}
 use Rattle.text.specs.Fields.{commas}
-use Rattle.records.specs.Lines.{IsFactSet, Line, Proper, word, fields}
+use Rattle.records.specs.Lines.{IsFactSet, IsSetText, Line, Proper, word, fields}
 use Rattle.records.specs.declared.word.Word.TheVariants.{Start, Goal}
 use Rattle.orders.specs.Changes.Change.{swap, group, ungroup, loosen, replace}
 use Rattle.records.specs.Lines.Line.{act, start, goal as goal', edit}
 use Rattle.records.proofs.line.record_of.Goals as goal
 
--- the fields of a line with such a word are a set
-no_start : (bs : List ℕ) → ((set : List ℕ) → IsFactSet set → bs ≡ commas set → ⊥) → (l : Line) → Proper l → word l ≡ Start → bs ≡ fields l → ⊥
-no_start bs none l p w e = grind arith
-
-no_goal : (bs : List ℕ) → ((set : List ℕ) → IsFactSet set → bs ≡ commas set → ⊥) → (l : Line) → Proper l → word l ≡ Goal → bs ≡ fields l → ⊥
-no_goal bs none l p w e = grind arith
+-- the fields of a line with either word are a set
+no_set : (bs : List ℕ) → ((s : List ℕ) → (s ≡ bs) × IsSetText s → ⊥) → (l : Line) → Proper l → (word l ≡ Start) ⊎ (word l ≡ Goal) → bs ≡ fields l → ⊥
+no_set bs none l p w e =
+    let no : (set : List ℕ) → IsFactSet set → bs ≡ commas set → ⊥ = λ set q t. none bs (refl, (set, q, t)) in
+    grind arith
 
 pub returns-in_err-set-in-Start : goal.returns-in_err-set-in-Start
 returns-in_err-set-in-Start c =
-    MatchResult-from_err _ _ _ c.from_residual-in_err-set-in-Start.ensures.0 (λ _ l p w. no_start _ (λ set q e. c.in_err-set-in-Start.ensures.1 _ (refl, (set, q, e))) l p (w ∙ c.in-Start.is))
+    MatchResult-from_err _ _ _ c.from_residual-in_err-set-in-Start.ensures.0 (λ _ l p w. no_set _ c.in_err-set-in-Start.ensures.1 l p (inl (w ∙ c.in-Start.is)))
 
 pub returns-in_err-set-in-Goal : goal.returns-in_err-set-in-Goal
 returns-in_err-set-in-Goal c =
-    MatchResult-from_err _ _ _ c.from_residual-in_err-set-in-Goal.ensures.0 (λ _ l p w. no_goal _ (λ set q e. c.in_err-set-in-Goal.ensures.1 _ (refl, (set, q, e))) l p (w ∙ c.in-Goal.is))
+    MatchResult-from_err _ _ _ c.from_residual-in_err-set-in-Goal.ensures.0 (λ _ l p w. no_set _ c.in_err-set-in-Goal.ensures.1 l p (inr (w ∙ c.in-Goal.is)))
 
 pub returns-in_ok-act-in-Act : goal.returns-in_ok-act-in-Act
 returns-in_ok-act-in-Act c = let a = c.in_ok-act-in-Act.ensures in (act a.0, a.1, sym c.in-Act.is, a.2, (a.0, refl, a.3))
