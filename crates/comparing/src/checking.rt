@@ -2,11 +2,11 @@
 ghost use Rattle.std.specs.Prelude.{◌≡◌, ◌<◌, IfErr, IfOk};
 
 use crate::differing::{Difference, Differs};
-use crate::enumeration::Orders;
 use crate::model::Model;
 use crate::random::Random;
 use crate::shapes::{Shape, Shapes};
 use crate::tasks::PlainTask;
+use crate::verdicts::Judged;
 use shaping::{group, loosen};
 use sheet::{Sheet, check, lay};
 
@@ -37,13 +37,13 @@ fn compared<P: Fn(&mut Random) -> u32>(random: &mut Random, price: &P) -> Result
     let task = PlainTask::any(random, steps, price);
     let sheet = shaped(random, &task, steps)?;
     let model = Model::read(&sheet);
-    let orders = Orders::of(&model);
-    let verdict = orders.verdict(&task);
+    let judged = Judged::under(&task, &model);
+    let verdict = judged.verdict();
     if check(&task.task(), &sheet) != verdict {
         return Err(Differs);
     }
     Ok(Shape {
-        is_loose: orders.all.len() > 1,
+        is_loose: judged.orders.all.len() > 1,
         is_grouped: !model.blocks.is_empty(),
         is_wanting: verdict.is_err(),
     })

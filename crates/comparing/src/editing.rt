@@ -3,13 +3,13 @@ ghost use Rattle.std.specs.Prelude.{◌≡◌, ◌<◌, IfErr, IfOk};
 
 use crate::differing::{Difference, Differs};
 use crate::ends::{End, Ends, Kind};
-use crate::enumeration::Orders;
 use crate::facts::PlainFacts;
 use crate::lists::MOST_STEPS;
 use crate::model::Model;
 use crate::random::Random;
 use crate::rules::Asked;
 use crate::tasks::{PlainTariff, PlainTask, Prices};
+use crate::verdicts::Judged;
 use edits::{Edit, apply};
 use sets::list::ArrayVec;
 use sheet::{Sheet, check, lay};
@@ -67,7 +67,7 @@ impl Twin {
     // None where the plan is refused, as it is to be.
     fn laid(task: &PlainTask, plan: &[u32]) -> Result<Option<Self>, Differs> {
         let model = Model::laid(plan);
-        let verdict = Orders::of(&model).verdict(task);
+        let verdict = Judged::under(task, &model).verdict();
         let answer = lay(&task.task(), plan);
         let is_as_ruled = match answer {
             Ok(sheet) => verdict.is_ok() && model.is_sheet(&sheet),
@@ -111,7 +111,7 @@ impl Twin {
     fn is_sound(&self, plain: &PlainTask, task: &Task) -> bool {
         self.model.is_sheet(&self.sheet)
             && self.model.has_parts_of(&self.sheet)
-            && check(task, &self.sheet) == Orders::of(&self.model).verdict(plain)
+            && check(task, &self.sheet) == Judged::under(plain, &self.model).verdict()
     }
 
     // Carries the edit out on both, and says how it ended.

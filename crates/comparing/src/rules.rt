@@ -1,9 +1,9 @@
 // The rules of the edits, followed on plain lists.
-use crate::enumeration::Orders;
 use crate::lists::Run;
 use crate::model::Model;
 use crate::moving::Sources;
 use crate::tasks::PlainTariff;
+use crate::verdicts::Judged;
 use edits::Edit;
 use sets::list::ArrayVec;
 use shaping::EditFault;
@@ -52,7 +52,7 @@ impl Asked<'_> {
 
     // The sheet asked for, unless it is wanting something.
     fn good(&self, model: Model) -> Result<Model, EditFault> {
-        Orders::of(&model).verdict(self.tariff.task)?;
+        Judged::under(self.tariff.task, &model).verdict()?;
         Ok(model)
     }
 

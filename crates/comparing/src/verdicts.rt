@@ -1,38 +1,57 @@
 // What the list of all running orders says of a sheet.
 use crate::enumeration::{Order, Orders};
 use crate::facts::PlainFacts;
+use crate::model::Model;
 use crate::tasks::PlainTask;
 use sheet::SheetFault;
 
-impl Orders<'_> {
+// A sheet with its running orders, and the task under which it is judged.
+#[derive(Drop)]
+pub(crate) struct Judged<'a> {
+    pub(crate) orders: Orders<'a>,
+    task: &'a PlainTask,
+}
+
+impl<'a> Judged<'a> {
+    pub(crate) fn under(task: &'a PlainTask, model: &'a Model) -> Self {
+        Judged {
+            orders: Orders::of(model),
+            task,
+        }
+    }
+
+    // The action at the place; None behind the last step.
+    fn action(&self, place: usize) -> Option<u32> {
+        self.orders.model.actions.get(place)
+    }
+
     // The facts that stand at the turn of the place in this order.
-    fn standing(&self, task: &PlainTask, order: &Order, place: usize) -> PlainFacts {
+    fn standing(&self, order: &Order, place: usize) -> PlainFacts {
         let ahead = order.as_slice().iter().take_while(|step| **step != place);
-        task.after(ahead.filter_map(|step| self.model.actions.get(*step)))
+        self.task.after(ahead.filter_map(|step| self.action(*step)))
     }
 
     // The facts that do not stand at the turn of the place in some order.
-    fn missed(&self, task: &PlainTask, place: usize) -> PlainFacts {
-        self.all
-            .as_slice()
-            .iter()
-            .fold(PlainFacts::NONE, |missed, order| {
-                missed.with(self.standing(task, order, place).others())
-            })
+    fn missed(&self, place: usize) -> PlainFacts {
+        let orders = self.orders.all.as_slice().iter();
+        orders.fold(PlainFacts::NONE, |missed, order| {
+            missed.with(self.standing(order, place).others())
+        })
     }
 
     // The lowest fact that the place is wanting.
-    fn wanting_at(&self, task: &PlainTask, place: usize) -> Option<usize> {
-        let needs = task.needs(self.model.actions.get(place));
-        needs.shared(self.missed(task, place)).lowest()
+    fn wanting_at(&self, place: usize) -> Option<usize> {
+        let needs = self.task.needs(self.action(place));
+        needs.shared(self.missed(place)).lowest()
     }
 
     // The lowest wanting place and its lowest wanting fact, unless an action is unknown. `find_map` would need a second step
     // to turn what it finds to a refusal.
-    pub(crate) fn verdict(&self, task: &PlainTask) -> Result<(), SheetFault> {
-        task.knows(self.model.actions())?;
-        for place in 0..=self.model.steps() {
-            if let Some(fact) = self.wanting_at(task, place) {
+    pub(crate) fn verdict(&self) -> Result<(), SheetFault> {
+        let model = self.orders.model;
+        self.task.knows(model.actions())?;
+        for place in 0..=model.steps() {
+            if let Some(fact) = self.wanting_at(place) {
                 return Err(SheetFault::WantingFact { place, fact });
             }
         }
