@@ -64,19 +64,22 @@ struct Twin {
 }
 
 impl Twin {
+    // Refuses two that are not one sheet.
+    fn of(sheet: Sheet, model: Model) -> Result<Self, Differs> {
+        model
+            .is_sheet(&sheet)
+            .then_some(Twin { sheet, model })
+            .ok_or(Differs)
+    }
+
     // None where the plan is refused, as it is to be.
     fn laid(task: &PlainTask, plan: &[u32]) -> Result<Option<Self>, Differs> {
         let model = Model::laid(plan);
         let verdict = Judged::under(task, &model).verdict();
-        let answer = lay(&task.task(), plan);
-        let is_as_ruled = match answer {
-            Ok(sheet) => verdict.is_ok() && model.is_sheet(&sheet),
-            Err(fault) => verdict == Err(fault),
-        };
-        if is_as_ruled {
-            Ok(answer.ok().map(|sheet| Twin { sheet, model }))
-        } else {
-            Err(Differs)
+        match (lay(&task.task(), plan), verdict) {
+            (Ok(sheet), Ok(())) => Twin::of(sheet, model).map(Some),
+            (Err(fault), Err(ruled)) if fault == ruled => Ok(None),
+            _ => Err(Differs),
         }
     }
 
