@@ -5,6 +5,7 @@ use crate::differing::{Difference, Differs};
 use crate::model::Model;
 use crate::random::Random;
 use crate::shapes::{Shape, Shapes};
+use crate::tally::tallied;
 use crate::tasks::PlainTask;
 use crate::verdicts::Judged;
 use shaping::{group, loosen};
@@ -60,10 +61,5 @@ pub fn compare_checks<P: Fn(&mut Random) -> u32>(
     ensures all { IfOk result (λ shapes. shapes.sheets ≡ sheets) }
     ensures one { IfErr result (λ difference. difference.sheet < sheets) }
 {
-    let mut shapes = Shapes::NONE;
-    for sheet in 0..sheets {
-        let shape = compared(random, &price).map_err(|_| Difference { sheet })?;
-        shapes.add(shape);
-    }
-    Ok(shapes)
+    tallied(random, sheets, |random| compared(random, &price))
 }

@@ -8,6 +8,7 @@ use crate::lists::MOST_STEPS;
 use crate::model::Model;
 use crate::random::Random;
 use crate::rules::Asked;
+use crate::tally::tallied;
 use crate::tasks::{PlainTariff, PlainTask, Prices};
 use crate::verdicts::Judged;
 use edits::{Edit, apply};
@@ -24,7 +25,7 @@ const EDITS: usize = 14;
 const MOST_EDITS: usize = LOOSENINGS - 1 + EDITS;
 
 // How the edits of one sheet ended, first to last.
-type Made = ArrayVec<End, MOST_EDITS>;
+pub(crate) type Made = ArrayVec<End, MOST_EDITS>;
 
 // The task that the edits are mostly asked under, and two like it.
 #[derive(Clone, Copy)]
@@ -227,10 +228,5 @@ pub fn compare_edits<P: Fn(&mut Random) -> u32>(
     ensures all { IfOk result (λ ends. ends.sheets ≡ sheets) }
     ensures one { IfErr result (λ difference. difference.sheet < sheets) }
 {
-    let mut ends = Ends::none();
-    for sheet in 0..sheets {
-        let made = edited(random, &price).map_err(|_| Difference { sheet })?;
-        ends.add(made.as_slice());
-    }
-    Ok(ends)
+    tallied(random, sheets, |random| edited(random, &price))
 }

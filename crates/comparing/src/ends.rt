@@ -2,6 +2,8 @@
 ghost use Rattle.std.specs.Prelude.{◌≡◌, ◌+◌, ◌^◌, ◌<◌, nat_le};
 ghost use Rattle.std.specs.List.{list_all};
 
+use crate::editing::Made;
+use crate::tally::Tally;
 use edits::Edit;
 
 #[derive(Clone, Copy, Debug, PartialEq, Eq)]
@@ -75,28 +77,29 @@ pub struct Ends {
     pub counts: [Count; WAYS],
 }
 
-impl Ends {
-    pub(crate) fn none() -> Self
-        ensures { result.sheets ≡ 0 }
-    {
+impl Tally for Ends {
+    type Found = Made;
+
+    ghost counted = { λ ends. ends.sheets };
+
+    fn none() -> Self {
         Ends {
             sheets: 0,
             counts: ENDS.map(|end| Count { end, times: 0 }),
         }
     }
 
-    // Counts the edits of one sheet more.
-    pub(crate) fn add(&mut self, made: &[End])
-        requires { self.old.sheets + 1 < 2 ^ 32 }
-        ensures { self.new.sheets ≡ self.old.sheets + 1 }
-    {
+    fn add(&mut self, made: Made) {
         for count in self.counts.iter_mut() {
-            let times = made.iter().filter(|end| **end == count.end).count();
+            let ends = made.as_slice().iter();
+            let times = ends.filter(|end| **end == count.end).count();
             count.times = count.times.saturating_add(times);
         }
         self.sheets += 1;
     }
+}
 
+impl Ends {
     // Whether each kind of edit ended in each of its ways that often.
     pub fn have_all(&self, often: usize) -> bool
         ensures { result ≡ list_all (λ c. nat_le often c.times) self.now.counts }

@@ -17,6 +17,7 @@ mod moving;
 mod random;
 mod rules;
 mod shapes;
+mod tally;
 mod tasks;
 mod verdicts;
 

@@ -1,6 +1,7 @@
 // What the compared sheets are like.
 ghost use Rattle.std.specs.Prelude.{◌≡◌, ◌+◌, ◌-◌, ◌/◌, ◌^◌, ◌<◌, ◌&&◌, nat_lt};
 
+use crate::tally::Tally;
 use std::fmt;
 
 // How many sheets were compared, and how many of these had several running orders, a block, or a wanting fact.
@@ -20,25 +21,29 @@ pub(crate) struct Shape {
     pub(crate) is_wanting: bool,
 }
 
-impl Shapes {
-    pub(crate) const NONE: Self = Shapes {
-        sheets: 0,
-        loose: 0,
-        grouped: 0,
-        wanting: 0,
-    };
+impl Tally for Shapes {
+    type Found = Shape;
 
-    // Counts one sheet more.
-    pub(crate) fn add(&mut self, shape: Shape)
-        requires { self.old.sheets + 1 < 2 ^ 32 }
-        ensures { self.new.sheets ≡ self.old.sheets + 1 }
-    {
+    ghost counted = { λ shapes. shapes.sheets };
+
+    fn none() -> Self {
+        Shapes {
+            sheets: 0,
+            loose: 0,
+            grouped: 0,
+            wanting: 0,
+        }
+    }
+
+    fn add(&mut self, shape: Shape) {
         self.sheets += 1;
         self.loose = self.loose.saturating_add(u32::from(shape.is_loose));
         self.grouped = self.grouped.saturating_add(u32::from(shape.is_grouped));
         self.wanting = self.wanting.saturating_add(u32::from(shape.is_wanting));
     }
+}
 
+impl Shapes {
     // Whether more than a quarter had several running orders, a block, a wanting fact, and none: a comparison of sheets that
     // permit one order, or that are all good, would show little.
     pub fn are_varied(&self) -> bool
