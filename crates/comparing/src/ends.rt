@@ -16,6 +16,7 @@ pub enum Kind {
 }
 
 impl Kind {
+    // No `From`: beside a public type it would be public, and owe a contract that could only say the match again.
     pub(crate) fn of(edit: Edit<'_>) -> Self {
         match edit {
             Edit::Swap(_) => Kind::Swap,
