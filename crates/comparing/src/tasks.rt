@@ -122,10 +122,10 @@ impl PlainTask {
 
     // Refuses the first of the actions that it lacks.
     pub(crate) fn knows(&self, actions: &[u32]) -> Result<(), SheetFault> {
-        let unknown = actions
+        actions
             .iter()
-            .find(|action| **action as usize >= self.actions());
-        unknown.map_or(Ok(()), |action| Err(SheetFault::UnknownAction(*action)))
+            .find(|action| **action as usize >= self.actions())
+            .map_or(Ok(()), |action| Err(SheetFault::UnknownAction(*action)))
     }
 
     // What the action needs; the goal where there is no action.
