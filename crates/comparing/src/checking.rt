@@ -10,6 +10,7 @@ use crate::tasks::PlainTask;
 use crate::verdicts::Judged;
 use shaping::{group, loosen};
 use sheet::{Sheet, check, lay};
+use std::fmt;
 
 const NUMBERS: [u32; 5] = [0, 1, 2, 3, 4];
 
@@ -62,4 +63,17 @@ pub fn compare_checks<P: Fn(&mut Random) -> u32>(
     ensures one { IfErr result (λ difference. difference.sheet < sheets) }
 {
     tallied(random, sheets, |random| compared(random, &price))
+}
+
+// What was found, in the words of the programs.
+#[derive(Clone, Copy)]
+pub struct Findings(pub Result<Shapes, Difference>);
+
+impl fmt::Display for Findings {
+    fn fmt<W: fmt::Write>(&self, f: &mut fmt::Formatter<W>) -> fmt::Result {
+        match self.0 {
+            Ok(shapes) => write!(f, "{shapes}"),
+            Err(difference) => write!(f, "the first difference is at {difference}"),
+        }
+    }
 }

@@ -21,7 +21,7 @@ mod tally;
 mod tasks;
 mod verdicts;
 
-pub use checking::compare_checks;
+pub use checking::{Findings, compare_checks};
 pub use differing::Difference;
 pub use editing::compare_edits;
 pub use ends::{Count, End, Ends, Kind};

@@ -3,15 +3,13 @@
 
 #![tactic(auto)]
 
-use comparing::{Random, compare_checks};
+use comparing::{Findings, Random, compare_checks};
 
 const SHEETS: u32 = 12000;
 
 fn main(rt: HostRuntime) -> anyhow::Result<()> {
     let mut random = Random { state: 20261117 };
-    match compare_checks(&mut random, SHEETS, |_| 1) {
-        Ok(shapes) => println!(rt; "{shapes}")?,
-        Err(difference) => println!(rt; "the first difference is at {difference}")?,
-    }
+    let findings = Findings(compare_checks(&mut random, SHEETS, |_| 1));
+    println!(rt; "{findings}")?;
     Ok(())
 }

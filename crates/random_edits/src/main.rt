@@ -3,7 +3,7 @@
 
 #![tactic(auto)]
 
-use comparing::{Random, compare_checks, compare_edits};
+use comparing::{Findings, Random, compare_checks, compare_edits};
 
 // How many sheets are checked.
 const SHEETS: u32 = 12000;
@@ -25,10 +25,8 @@ fn price(random: &mut Random) -> u32 {
 }
 
 fn tell_checks(rt: &HostRuntime, random: &mut Random) -> anyhow::Result<()> {
-    match compare_checks(random, SHEETS, price) {
-        Ok(shapes) => println!(rt; "{shapes}")?,
-        Err(difference) => println!(rt; "the first difference is at {difference}")?,
-    }
+    let findings = Findings(compare_checks(random, SHEETS, price));
+    println!(rt; "{findings}")?;
     Ok(())
 }
 
