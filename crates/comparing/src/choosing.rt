@@ -27,7 +27,7 @@ impl Random {
         }
     }
 
-    // Mostly a block where there is one.
+    // Mostly a block where there is one. `self` and `model` stay two, here and below: the one is changed, the other read.
     fn block(&mut self, model: &Model) -> Run {
         let index = self.below(model.blocks.len());
         if let Some(block) = model.blocks.get(index)

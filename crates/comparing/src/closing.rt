@@ -13,6 +13,7 @@ impl Model {
         self.ties().iter().any(|&(x, y)| run.has(x) && y == j)
     }
 
+    // `i` and `j` are no `Pair`, here and in what follows: each is also asked about beside other positions, as `y` here.
     fn is_tied_through(&self, i: usize, j: usize) -> bool {
         self.ties()
             .iter()

@@ -97,6 +97,7 @@ impl Twin {
     }
 
     // Whether the price before is the price now and what was saved, and both are the sums of the steps' prices.
+    // `plain`, `task` and `tariff` stay apart: this and `is_sound` take two of them each, and `edit` alone all three.
     fn balances<T: Tariff>(
         &self,
         before: &Self,
