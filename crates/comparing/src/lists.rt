@@ -1,6 +1,4 @@
 // Short lists, pairs and runs of positions.
-ghost use Rattle.std.specs.Iterator.{IsFinite};
-
 use sets::list::ArrayVec;
 
 // All orders of more steps would take too long.

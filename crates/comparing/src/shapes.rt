@@ -1,5 +1,5 @@
 // What the compared sheets are like.
-ghost use Rattle.std.specs.Prelude.{◌≡◌, ◌+◌, ◌-◌, ◌/◌, ◌^◌, ◌<◌, ◌&&◌, nat_lt};
+ghost use Rattle.std.specs.Prelude.{◌≡◌, ◌-◌, ◌/◌, ◌&&◌, nat_lt};
 
 use crate::tally::Tally;
 use std::fmt;
