@@ -1,6 +1,5 @@
 -- The rows of the table: one test computes over each, and says what its running orders do.
 use Rattle.std.proofs.Common.{◌≡◌, ℕ, zero, suc, ◌<◌, Bool, true, false, cond, not, ◌&&◌, eqb, ltb, List, [], ◌∷◌, length, Some, None, Decides, Option, sym, refl, ◌∙◌, arith}
-use Rattle.std.specs.List.{AllByRecursion}
 use Rattle.std.proofs.lemmas.Bool.{and_parts, eqb-true, false≢true, ltb-true, not-true, true≢false}
 use Rattle.orders.specs.Check.{missing, some_below}
 use Rattle.orders.specs.Facts.{Wanting, needed}
@@ -8,13 +7,12 @@ use Rattle.orders.specs.Lists.{listed}
 use Rattle.orders.specs.Sheets.{Rules}
 use Rattle.orders.specs.SmallSheets.{EveryRowHolds, Finds, SmallSheet, Step, effects_of, outline_of, step_has, table}
 use Rattle.orders.proofs.Below.{below_is}
-use Rattle.orders.proofs.Tested.{all_low, keeps_rules, low_at, rules_from_test}
+use Rattle.orders.proofs.Tested.{all_hold, all_low, all_pass, keeps_rules, low_at, rules_from_test}
 use Rattle.orders.proofs.Wanting.{test_decides_wanting}
 
 -- the facts of small sheets are below 64
 abbrev small_needs : List Step → Bool
-small_needs [] = true
-small_needs (x ∷ steps) = all_low 64 x.needs && small_needs steps
+small_needs = all_pass (λ x. all_low 64 x.needs)
 
 small_needs_at : (steps : List Step) (p f : ℕ) → small_needs steps ≡ true → step_has (λ x. x.needs) steps p f ≡ true → f < 64
 small_needs_at [] p f t h = absurd (false≢true h)
@@ -66,14 +64,6 @@ row_holds (s, answer) h =
     let c = and_parts (small_needs s.steps) (all_low 64 s.goal) b.0 in
     found_is s (rules_from_test _ s.ties s.blocks a.0) c.0 c.1 answer b.1
 
-abbrev all_rows : List (SmallSheet × Option (ℕ × ℕ)) → Bool
-all_rows [] = true
-all_rows (row ∷ rows) = row_test row && all_rows rows
-
-rows_hold : (rows : List (SmallSheet × Option (ℕ × ℕ))) → all_rows rows ≡ true → AllByRecursion (λ (row : SmallSheet × Option (ℕ × ℕ)). Finds row.0 row.1) rows
-rows_hold [] h = tt
-rows_hold (row ∷ rows) h = let a = and_parts (row_test row) (all_rows rows) h in (row_holds row a.0, rows_hold rows a.1)
-
 -- the test computes to true over the whole table
 pub every_row_holds : EveryRowHolds
-every_row_holds = rows_hold table refl
+every_row_holds = all_hold row_test (λ row. Finds row.0 row.1) row_holds table refl

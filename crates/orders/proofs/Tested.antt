@@ -1,5 +1,6 @@
 -- A sheet whose ties and blocks are written out as pairs keeps the rules: a test that computes.
 use Rattle.std.proofs.Common.{◌≡◌, ℕ, zero, suc, ◌<◌, ◌≤◌, Bool, true, false, not, ◌&&◌, ◌||◌, eqb, ltb, leb, List, [], ◌∷◌, sym, ◌∙◌, ⊎_elim, arith}
+use Rattle.std.specs.List.{AllByRecursion}
 use Rattle.std.proofs.lemmas.Bool.{and_parts, cases_eq, cases_lt, false≢true}
 use Rattle.std.proofs.lemmas.Bool.Decides.{nat_tests}
 use Rattle.orders.specs.Check.{inside}
@@ -8,14 +9,22 @@ use Rattle.orders.specs.Sheets.{Inside, Outside, Rules}
 use Rattle.orders.proofs.Below.{refuted}
 use Rattle.orders.proofs.EditRuns.{Nested, inside_is, outside_is}
 
--- a test of every pair, and of every number below n
+-- a test of every entry, and of every number below n
+abbrev pub all_pass : {X : Type 0} → (X → Bool) → List X → Bool
+all_pass test [] = true
+all_pass test (x ∷ xs) = test x && all_pass test xs
+
 abbrev pub all_pairs : (ℕ → ℕ → Bool) → List (ℕ × ℕ) → Bool
-all_pairs test [] = true
-all_pairs test (p ∷ ps) = test p.0 p.1 && all_pairs test ps
+all_pairs test = all_pass (λ p. test p.0 p.1)
 
 abbrev pub all_below : ℕ → (ℕ → Bool) → Bool
 all_below zero test = true
 all_below (suc n) test = test n && all_below n test
+
+-- where what passes is so, all are
+pub all_hold : {X : Type 0} (test : X → Bool) (Is : X → Type 0) → ((x : X) → test x ≡ true → Is x) → (xs : List X) → all_pass test xs ≡ true → AllByRecursion Is xs
+all_hold test Is passes [] t = tt
+all_hold test Is passes (x ∷ xs) t = let both = and_parts (test x) (all_pass test xs) t in (passes x both.0, all_hold test Is passes xs both.1)
 
 pub pair_at : (test : ℕ → ℕ → Bool) (ps : List (ℕ × ℕ)) (a b : ℕ) → all_pairs test ps ≡ true → paired ps a b ≡ true → test a b ≡ true
 pair_at test [] a b t h = absurd (false≢true h)
@@ -27,8 +36,7 @@ below_at (suc n) test t k h = let more = below_at n test in grind (arith, nat_te
 
 -- whether the numbers are below n
 abbrev pub all_low : ℕ → List ℕ → Bool
-all_low n [] = true
-all_low n (x ∷ xs) = ltb x n && all_low n xs
+all_low n = all_pass (λ x. ltb x n)
 
 pub low_at : (n : ℕ) (xs : List ℕ) (p : ℕ) → all_low n xs ≡ true → listed xs p ≡ true → p < n
 low_at n [] p t h = absurd (false≢true h)

@@ -5,7 +5,7 @@ use Rattle.std.proofs.lemmas.Bool.{and_from, and_parts, both_ways, cases_Bool, e
 use Rattle.orders.proofs.Below.{below_is}
 use Rattle.orders.proofs.DrivingOrders.{driving_ends_running, running_is_driven}
 use Rattle.orders.proofs.EditRuns.{inside_is, is_inside}
-use Rattle.orders.proofs.Tested.{all_below, below_at}
+use Rattle.orders.proofs.Tested.{all_below, all_pass, below_at}
 use Rattle.orders.specs.Check.{inside, some_below}
 use Rattle.orders.specs.Driving.{Driven, Lacks, Open}
 use Rattle.orders.specs.Running.{Has, RunningOrder, place}
@@ -102,8 +102,7 @@ abbrev pub is_driven : Outline → List ℕ → Bool
 is_driven s order = eqb (length order) s.size && all_below (length order) (λ k. is_open s (take k order) (get_or order k 0))
 
 abbrev pub all_driven : Outline → List (List ℕ) → Bool
-all_driven s [] = true
-all_driven s (order ∷ orders) = is_driven s order && all_driven s orders
+all_driven s = all_pass (is_driven s)
 
 module _ (s : Outline) (rules : Rules s) where
   covered_at : (orders : List (List ℕ)) (order : List ℕ) → Driven s order → (k : ℕ) (done : List ℕ) → length order ≡ length done + k → take (length done) order ≡ done → covered s orders k done ≡ true → among orders order ≡ true

@@ -1,11 +1,10 @@
 -- One test of a row, and that a row that passes it holds.
-use Rattle.std.proofs.Common.{◌≡◌, ℕ, ◌<◌, Bool, true, ◌&&◌, leb, List, [], ◌∷◌, length, Ok, Err, Decides, Result, sym, refl, ap, ◌∙◌, subst, inl, inr, arith}
+use Rattle.std.proofs.Common.{◌≡◌, ℕ, ◌<◌, Bool, true, ◌&&◌, leb, List, [], length, Ok, Err, Decides, Result, sym, refl, ap, ◌∙◌, subst, inl, inr, arith}
 use Rattle.std.proofs.lemmas.Bool.{and_parts, le-leb, lt-leb}
-use Rattle.std.specs.List.{AllByRecursion}
 use Rattle.edits.specs.Applying.{Applies}
 use Rattle.shaping.specs.declared.fault.EditFault.{EditFault}
 use Rattle.orders.specs.Changes.{Change}
-use Rattle.orders.proofs.Tested.{alike, alike_same, all_below, all_low, below_at, low_at}
+use Rattle.orders.proofs.Tested.{alike, alike_same, all_below, all_hold, all_low, below_at, low_at}
 use Rattle.orders.specs.Driving.{Open}
 use Rattle.orders.specs.Lists.{listed}
 use Rattle.orders.specs.Running.{RunningOrder}
@@ -131,14 +130,6 @@ row_holds (runs page orders) t =
     let c = and_parts (all_driven (outline_of page) orders) _ b.1 in
     (a.0, (made_sheet page b.0, (λ sheet so order. subst (λ (q : Page). Decides (among orders order) (RunningOrder q.order order)) (sym (same_page page sheet so)) (decides_running (outline_of page) (small_rules page b.0) orders c.0 c.1 order))))
 
-abbrev all_rows : List Row → Bool
-all_rows [] = true
-all_rows (row ∷ rows) = row_test row && all_rows rows
-
-rows_hold : (rows : List Row) → all_rows rows ≡ true → AllByRecursion Holds rows
-rows_hold [] t = tt
-rows_hold (row ∷ rows) t = let both = and_parts (row_test row) (all_rows rows) t in (row_holds row both.0, rows_hold rows both.1)
-
 -- the test computes to true over the whole table
 pub every_row_holds : EveryRowHolds
-every_row_holds = rows_hold table refl
+every_row_holds = all_hold row_test Holds row_holds table refl

@@ -5,7 +5,7 @@ use Rattle.std.proofs.lemmas.Nat.{or_lt, pow_below}
 use Rattle.std.proofs.lemmas.List.{length-append, length-replicate, take_all, take-append-le}
 use Rattle.std.proofs.lemmas.Bool.{and_parts, cases_lt, leb-true, ltb-true}
 use Rattle.orders.proofs.Below.{refuted}
-use Rattle.orders.proofs.Tested.{all_low, low_at}
+use Rattle.orders.proofs.Tested.{all_low, all_pass, low_at}
 use Rattle.orders.specs.Lists.{listed}
 use Rattle.sets.proofs.Kept.{zeros_at}
 use Rattle.sets.proofs.Laws.{bit_one, bit-or, bit_same, bit_zero}
@@ -70,8 +70,7 @@ abbrev pub fits_action : SmallAction → Bool
 fits_action a = leb a.price 1000000 && (all_low 64 a.needs && (all_low 64 a.adds && all_low 64 a.deletes))
 
 abbrev pub fits_actions : List SmallAction → Bool
-fits_actions [] = true
-fits_actions (a ∷ more) = fits_action a && fits_actions more
+fits_actions = all_pass fits_action
 
 abbrev pub fits_task : SmallTask → Bool
 fits_task small = (fits_actions small.actions && leb (length small.actions) 128) && (all_low 64 small.start && all_low 64 small.goal)
