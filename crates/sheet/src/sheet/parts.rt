@@ -9,6 +9,8 @@ use super::Sheet;
 use sets::bits::BitSet;
 
 impl Sheet {
+    // Positions are asked about two by two, here and below: a type for such a pair would be taken apart at once.
+
     // The first and last position of the part of `i` against `j`: of the largest step or block that has `i` and not `j`.
     // None unless both are positions and not the same.
     pub fn part(&self, i: usize, j: usize) -> Option<(usize, usize)>
