@@ -3,7 +3,6 @@ ghost use Rattle.std.specs.Prelude.{◌≡◌, ℕ, MatchResult};
 ghost use Rattle.lines.specs.Text.{reply_text};
 ghost use Rattle.lines.specs.Writing.{Answers};
 ghost use Rattle.lines.specs.declared.answer.Reply.TheVariants.{Unlaid};
-ghost use Rattle.sets.specs.Contents.{contents};
 ghost use Rattle.sheet.specs.Sheets.{actions};
 ghost use Rattle.sheet.specs.declared.fault.SheetFault.TheVariants.{WantingFact};
 ghost use Rattle.week.specs.Output.{LaidAs, NoSheet, WeekOf, task_text};
@@ -12,7 +11,7 @@ use book::load::load;
 use lines::{Reply, ShortBuffer, listing};
 use sets::list::ArrayVec;
 use sheet::{Sheet, SheetFault, lay};
-use task::{BookTariff, Plan, Tariff, Task};
+use task::{BookTariff, Tariff, Task};
 
 // A week's plan as a sheet, and the task that its steps are of.
 #[derive(Drop)]
@@ -49,18 +48,11 @@ fn unlaid(fault: SheetFault) -> Reply
     }
 }
 
-// The sheet's action numbers, as a plan.
-fn plan_of(sheet: &Sheet) -> Plan
-    ensures { contents result ≡ actions sheet.now }
-{
-    ArrayVec::collect(0, sheet.actions().iter().copied().map(u32::from))
-}
-
 // Writes the listing of a sheet to the front of `out`, by the book's prices, and returns its length. A buffer that is too
 // short is refused, and stays as it was.
 pub fn list_sheet(task: &Task, sheet: &Sheet, out: &mut [u8]) -> Result<usize, ShortBuffer>
     ensures { Answers (task_text task.now (actions sheet.now)) out.old result out.new }
 {
     let price = sheet.price(&BookTariff { task });
-    listing(price, plan_of(sheet).as_slice(), out)
+    listing(price, sheet.numbers().as_slice(), out)
 }
