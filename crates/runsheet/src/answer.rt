@@ -2,7 +2,7 @@
 ghost use Rattle.runsheet.specs.Output.{Text, Writes};
 
 use lines::{ShortBuffer, reply};
-use week::{Outcome, lay_week, list_sheet};
+use week::{Outcome, lay_week};
 
 // Writes the answer to the front of `out`: the price and the steps of the book's plan as it is laid, or the one line that says
 // why there is none.
@@ -10,7 +10,7 @@ pub fn answer(book: &[u8], out: &mut [u8]) -> Result<Outcome, ShortBuffer>
     ensures { Writes (Text book.now) out.old result out.new }
 {
     match lay_week(book) {
-        Ok(week) => list_sheet(&week.task, &week.sheet, out).map(Outcome::Listed),
+        Ok(week) => week.list(out).map(Outcome::Listed),
         Err(why) => reply(why, out).map(Outcome::Refused),
     }
 }

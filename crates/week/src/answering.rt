@@ -3,8 +3,7 @@ ghost use Rattle.std.specs.Prelude.{◌≡◌, true, ◌⊎◌};
 ghost use Rattle.book.specs.Weeks.{Fits, Week, bytes, said};
 ghost use Rattle.week.specs.Output.{Begun, Front, LaidAs, Listed, Text, Writes};
 
-use crate::editing::carry_out_all;
-use crate::laying::{LaidWeek, lay_week, list_sheet};
+use crate::laying::{LaidWeek, lay_week};
 use lines::{ShortBuffer, reply};
 
 // What the answer is, and how many bytes it has.
@@ -17,13 +16,12 @@ pub enum Outcome {
 }
 
 // Carries out the book's edits on the sheet, and lists what it is then.
-fn edited(book: &[u8], week: LaidWeek, out: &mut [u8]) -> Result<Outcome, ShortBuffer>
+fn edited(book: &[u8], mut week: LaidWeek, out: &mut [u8]) -> Result<Outcome, ShortBuffer>
     ensures { (w : Week) → Fits w → book.now ≡ bytes (said w) → LaidAs w week.task week.sheet →
         Writes (λ accepted text. (accepted ≡ true) × Listed text w) (λ text. Listed text w ⊎ Begun text w) out.old result out.new }
 {
-    let LaidWeek { task, mut sheet } = week;
-    let at = carry_out_all(book, &task, &mut sheet, out)?;
-    let len = list_sheet(&task, &sheet, &mut out[at..])?;
+    let at = week.carry_out_all(book, out)?;
+    let len = week.list(&mut out[at..])?;
     Ok(Outcome::Listed(at + len))
 }
 

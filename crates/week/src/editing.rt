@@ -9,6 +9,7 @@ ghost use Rattle.records.specs.Records.{EditSays};
 ghost use Rattle.week.specs.Editing.{Replies, answer_text, book_prices, changes_in};
 ghost use Rattle.std.specs.List.{AllByRecursion};
 
+use crate::laying::LaidWeek;
 use crate::reading::{next_edit, numbers_of};
 use edits::{Edit, apply};
 use lines::{Reply, ShortBuffer, reply};
@@ -16,28 +17,8 @@ use records::reader::Reader;
 use records::record::Edit as Written;
 use sets::list::ArrayVec;
 use shaping::EditFault;
-use sheet::{Sheet, SheetFault};
-use task::{BookTariff, Task};
-
-// Carries out an edit of the book, by the book's prices.
-fn carry_out(sheet: &mut Sheet, task: &Task, edit: Written<'_>) -> Result<u32, EditFault>
-    ensures { (change : Change) → ProperChange change → ChangeFits change → EditSays edit.entry change →
-        Applies (book_prices task.now) task.now sheet.old change result sheet.new }
-{
-    // Only a replacement has a list.
-    let mut list = ArrayVec::new(0);
-    let meant = match edit {
-        Written::Swap(k) => Edit::Swap(k as usize),
-        Written::Group(a, b) => Edit::Group(a as usize, b as usize),
-        Written::Ungroup(a, b) => Edit::Ungroup(a as usize, b as usize),
-        Written::Loosen(i, j) => Edit::Loosen(i as usize, j as usize),
-        Written::Replace(a, b, text) => {
-            list = numbers_of(text);
-            Edit::Replace(a as usize, b as usize, list.as_slice())
-        }
-    };
-    apply(sheet, task, &BookTariff { task }, meant)
-}
+use sheet::SheetFault;
+use task::BookTariff;
 
 // What the program says to the answer of an edit. No `From`: neither type is of this crate.
 fn reply_to(answer: Result<u32, EditFault>) -> Reply
@@ -55,23 +36,47 @@ fn reply_to(answer: Result<u32, EditFault>) -> Reply
     }
 }
 
-// Carries out the edits that are still to be read, one after another, and writes a line for each to the front of `out`.
-// Says how many bytes these are; where `out` is too short for the next of them, it has those before.
-pub fn carry_out_all(
-    book: &[u8],
-    task: &Task,
-    sheet: &mut Sheet,
-    out: &mut [u8],
-) -> Result<usize, ShortBuffer>
-    ensures says { (lines : List Line) → AllByRecursion Proper lines → AllByRecursion ChangeFits (changes_in lines) → book.now ≡ bytes lines →
-        Replies task.now sheet.old (changes_in lines) out.old result sheet.new out.new }
-    ensures within { IfOk result (λ len. len ≤ length out.new) }
-{
-    let mut reader = Reader::new(book);
-    let mut len = 0;
-    while let Some(edit) = next_edit(&mut reader) {
-        let answer = carry_out(sheet, task, edit);
-        len += reply(reply_to(answer), &mut out[len..])?;
+impl LaidWeek {
+    // Carries out an edit of the book, by the book's prices.
+    fn carry_out(&mut self, edit: Written<'_>) -> Result<u32, EditFault>
+        ensures task { self.new.task ≡ self.old.task }
+        ensures says { (change : Change) → ProperChange change → ChangeFits change → EditSays edit.entry change →
+            Applies (book_prices self.old.task) self.old.task self.old.sheet change result self.new.sheet }
+    {
+        // Only a replacement has a list.
+        let mut list = ArrayVec::new(0);
+        let meant = match edit {
+            Written::Swap(k) => Edit::Swap(k as usize),
+            Written::Group(a, b) => Edit::Group(a as usize, b as usize),
+            Written::Ungroup(a, b) => Edit::Ungroup(a as usize, b as usize),
+            Written::Loosen(i, j) => Edit::Loosen(i as usize, j as usize),
+            Written::Replace(a, b, text) => {
+                list = numbers_of(text);
+                Edit::Replace(a as usize, b as usize, list.as_slice())
+            }
+        };
+        let task = &self.task;
+        apply(&mut self.sheet, task, &BookTariff { task }, meant)
     }
-    Ok(len)
+
+    // Carries out the edits that are still to be read, one after another, and writes a line for each to the front of `out`.
+    // Says how many bytes these are; where `out` is too short for the next of them, it has those before.
+    pub(crate) fn carry_out_all(
+        &mut self,
+        book: &[u8],
+        out: &mut [u8],
+    ) -> Result<usize, ShortBuffer>
+        ensures task { self.new.task ≡ self.old.task }
+        ensures says { (lines : List Line) → AllByRecursion Proper lines → AllByRecursion ChangeFits (changes_in lines) → book.now ≡ bytes lines →
+            Replies self.old.task self.old.sheet (changes_in lines) out.old result self.new.sheet out.new }
+        ensures within { IfOk result (λ len. len ≤ length out.new) }
+    {
+        let mut reader = Reader::new(book);
+        let mut len = 0;
+        while let Some(edit) = next_edit(&mut reader) {
+            let answer = self.carry_out(edit);
+            len += reply(reply_to(answer), &mut out[len..])?;
+        }
+        Ok(len)
+    }
 }

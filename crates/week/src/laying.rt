@@ -48,11 +48,13 @@ fn unlaid(fault: SheetFault) -> Reply
     }
 }
 
-// Writes the listing of a sheet to the front of `out`, by the book's prices, and returns its length. A buffer that is too
-// short is refused, and stays as it was.
-pub fn list_sheet(task: &Task, sheet: &Sheet, out: &mut [u8]) -> Result<usize, ShortBuffer>
-    ensures { Answers (task_text task.now (actions sheet.now)) out.old result out.new }
-{
-    let price = sheet.price(&BookTariff { task });
-    listing(price, sheet.numbers().as_slice(), out)
+impl LaidWeek {
+    // Writes the listing of the sheet to the front of `out`, by the book's prices, and returns its length. A buffer that is too
+    // short is refused, and stays as it was.
+    pub fn list(&self, out: &mut [u8]) -> Result<usize, ShortBuffer>
+        ensures { Answers (task_text self.now.task (actions self.now.sheet)) out.old result out.new }
+    {
+        let price = self.sheet.price(&BookTariff { task: &self.task });
+        listing(price, self.sheet.numbers().as_slice(), out)
+    }
 }

@@ -8,7 +8,7 @@ mod laying;
 mod reading;
 
 pub use answering::{Outcome, answer};
-pub use laying::{LaidWeek, lay_week, list_sheet};
+pub use laying::{LaidWeek, lay_week};
 
 #[cfg(test)]
 mod tests;
