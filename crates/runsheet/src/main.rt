@@ -4,6 +4,7 @@
 
 use answer::answer;
 use anyhow::anyhow;
+use book::load::LONGEST_BOOK;
 use std::alloc::Global;
 use std::io::Read;
 use std::{env, fs, io};
@@ -18,7 +19,7 @@ the price of its plan and the plan's steps. A book that is refused gives the
 one line `bad', the number of the refusal and the line at fault, and status 1.";
 
 // One byte past the longest book, so that a longer one is seen to be longer.
-const MOST_BYTES: u64 = 32_769;
+const MOST_BYTES: u64 = LONGEST_BOOK as u64 + 1;
 
 // Longer than any answer: 128 steps of at most 20 bytes, and a price.
 const ANSWER_ROOM: usize = 4096;
