@@ -1,5 +1,5 @@
 -- Texts that are written one behind the other.
-use Rattle.std.proofs.Common.{◌≡◌, ℕ, ◌+◌, ◌≤◌, List, [], ◌++◌, length, take, drop, sym, refl, ap, ◌∙◌, append_assoc, arith, length-append}
+use Rattle.std.proofs.Common.{◌≡◌, ℕ, ◌+◌, ◌≤◌, List, [], ◌++◌, length, take, drop, sym, refl, ap, ◌∙◌, append_assoc, arith, length-append, length-drop}
 use Rattle.std.proofs.lemmas.List.{append-nil, take-append-drop, take_at, length-take-le}
 use Rattle.std.proofs.lemmas.Slice.{drop-append-drop}
 use Rattle.lines.specs.Writing.{Put}
@@ -17,6 +17,10 @@ put_more {t} {u} {before} {mid} {after} {at} {m} {next} h p q =
       place = simp length-append (omega arith);
       bytes = q.bytes ∙ rw (kept, rest) (simp append_assoc);
     }
+
+-- a text that there is room for leaves the buffer as long as it was
+pub put_length : {t before after : List ℕ} {at next : ℕ} → at + length t ≤ length before → Put t before at next after → length after ≡ length before
+put_length {before = before} {at = at} h p = ap length p.bytes ∙ simp (length-append, length-drop) (omega (arith, p.place, length-take-le at before (omega (arith, h))))
 
 -- of a text that there is room for, all but the rest is written
 pub record Ahead (text rest before : List ℕ) (at next : ℕ) (after : List ℕ) : Type 0 where
@@ -46,3 +50,7 @@ ahead_more {part = part} {more = more} s a p = record {
 -- all of the text is written
 pub ahead_all : {text rest before after : List ℕ} {at next : ℕ} → rest ≡ [] → Ahead text rest before at next after → Put text before at next after
 ahead_all e a = rw (a.split.whole, e, append-nil) a.put
+
+-- and the buffer stays as long as it was
+pub ahead_length : {text rest before after : List ℕ} {at next : ℕ} → Ahead text rest before at next after → length after ≡ length before
+ahead_length a = put_length (omega (arith, a.fits, a.split.sizes)) a.put

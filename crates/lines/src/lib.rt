@@ -18,11 +18,12 @@ pub fn listing(price: u32, steps: &[u32], out: &mut [u8]) -> Result<usize, Short
 {
     // A refusal leaves the buffer alone, so the text is measured before any of it is written.
     room_after_listing(out.len(), price, steps).ok_or(ShortBuffer)?;
-    let mut next = put_line(out, 0, b"price", &[price as usize]);
+    let mut writer = Writer { out, at: 0 };
+    writer.line(b"price", &[price as usize]);
     for (position, action) in steps.iter().enumerate() {
-        next = put_line(out, next, b"step", &[position, *action as usize]);
+        writer.line(b"step", &[position, *action as usize]);
     }
-    Ok(next)
+    Ok(writer.at)
 }
 
 // Writes a reply to the front of `out`, and returns its length. A buffer that is too short is refused, and stays as it was.
@@ -55,17 +56,9 @@ fn only_line(out: &mut [u8], word: &[u8], numbers: &[usize]) -> Result<usize, Sh
     ensures { Answers (line_text word.now numbers.now) out.old result out.new }
 {
     room_after(out.len(), word, numbers).ok_or(ShortBuffer)?;
-    Ok(put_line(out, 0, word, numbers))
-}
-
-// Writes `bytes` at `at`, and returns the place behind them.
-fn put(out: &mut [u8], at: usize, bytes: &[u8]) -> usize
-    requires { at + length bytes.now ≤ length out.old }
-    ensures { Put bytes.now out.old at result out.new }
-{
-    let next = at + bytes.len();
-    out[at..next].copy_from_slice(bytes);
-    next
+    let mut writer = Writer { out, at: 0 };
+    writer.line(word, numbers);
+    Ok(writer.at)
 }
 
 // What is left of `room` behind a line, or `None` where the line is longer.
@@ -81,18 +74,40 @@ fn room_after(room: usize, word: &[u8], numbers: &[usize]) -> Option<usize>
     left.checked_sub(1)
 }
 
-// Writes a line at `at`, and returns the place behind it. The word and the numbers come as two: they are taken apart at once.
-fn put_line(out: &mut [u8], at: usize, word: &[u8], numbers: &[usize]) -> usize
-    requires { at + length (line_text word.now numbers.now) ≤ length out.old }
-    ensures { Put (line_text word.now numbers.now) out.old at result out.new }
-{
-    let mut digits = Buffer::new();
-    let mut next = put(out, at, word);
-    for n in numbers {
-        next = put(out, next, b"\t");
-        next = put(out, next, digits.format(*n).as_bytes());
+// A buffer, and the place in it behind all that is written.
+#[derive(Drop)]
+struct Writer<'a> {
+    out: &'a mut [u8],
+    at: usize,
+}
+
+impl Writer<'_> {
+    // Writes `bytes`.
+    fn put(&mut self, bytes: &[u8])
+        requires { self.old.at + length bytes.now ≤ length self.old.out.now }
+        ensures same_buffer { self.new.out.ghost_name ≡ self.old.out.ghost_name }
+        ensures writes { Put bytes.now self.old.out.now self.old.at self.new.at self.new.out.now }
+    {
+        let next = self.at + bytes.len();
+        self.out[self.at..next].copy_from_slice(bytes);
+        self.at = next;
     }
-    put(out, next, b"\n")
+
+    // Writes a line. The word and the numbers come as two: they are taken apart at once.
+    #[tactic(auto, using(crate::proofs::Texts::line_parts))]
+    fn line(&mut self, word: &[u8], numbers: &[usize])
+        requires { self.old.at + length (line_text word.now numbers.now) ≤ length self.old.out.now }
+        ensures same_buffer { self.new.out.ghost_name ≡ self.old.out.ghost_name }
+        ensures writes { Put (line_text word.now numbers.now) self.old.out.now self.old.at self.new.at self.new.out.now }
+    {
+        let mut digits = Buffer::new();
+        self.put(word);
+        for n in numbers {
+            self.put(b"\t");
+            self.put(digits.format(*n).as_bytes());
+        }
+        self.put(b"\n");
+    }
 }
 
 #[cfg(test)]
