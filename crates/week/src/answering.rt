@@ -16,6 +16,7 @@ pub enum Outcome {
 }
 
 // Carries out the book's edits on the sheet, and lists what it is then.
+// The book and the buffer are the caller's, and stay two parameters: one is read, and the other written to.
 fn edited(book: &[u8], mut week: LaidWeek, out: &mut [u8]) -> Result<Outcome, ShortBuffer>
     ensures { (w : Week) → Fits w → book.now ≡ bytes (said w) → LaidAs w week.task week.sheet →
         Writes (λ accepted text. (accepted ≡ true) × Listed text w) (λ text. Listed text w ⊎ Begun text w) out.old result out.new }
