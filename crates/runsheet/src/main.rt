@@ -30,7 +30,7 @@ fn bytes_of<R: Read + Drop>(source: R, heap: Global) -> io::Result<Vec<u8>> {
     Ok(bytes)
 }
 
-// Whether the book was accepted.
+// Whether the book was accepted. By a bool: a refused book is no fault to report, since its answer says why.
 fn run(rt: &HostRuntime, book: &[u8]) -> anyhow::Result<bool> {
     let mut out = [0; ANSWER_ROOM];
     let outcome = answer(book, &mut out).map_err(|_| anyhow!("the answer is too long"))?;
