@@ -65,7 +65,7 @@ fn start(rt: &HostRuntime) -> anyhow::Result<bool> {
 fn main(rt: HostRuntime) -> anyhow::Result<()> {
     match start(&rt) {
         Ok(true) => Ok(()),
-        // The answer says why, so nothing more is said.
+        // The answer says why; this gives the status.
         Ok(false) => Err(anyhow!("refused")),
         Err(fault) => {
             eprintln!(rt; "runsheet: {fault}")?;
