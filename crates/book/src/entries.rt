@@ -7,7 +7,8 @@ ghost use Rattle.book.specs.Weeks.{Known};
 use task::{Facts, LONGEST_LIST, Task};
 use text::Entries;
 
-// The set that the text writes, if it names only facts of the task.
+// The set that the text writes, if it names only facts of the task. That a text writes a set is said by each function that
+// takes one: a struct around the text would hold it as a truncated ghost field, out of which each would have to take it.
 pub fn known_facts(text: &[u8], task: &Task) -> Option<Facts>
     ensures { (set : List ℕ) → IsList text.now set → MatchOption result
         (Known task.now.facts set → ⊥)

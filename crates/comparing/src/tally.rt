@@ -32,6 +32,7 @@ pub(crate) fn tallied<T: Tally, F: Fn(&mut Random) -> Result<T::Found, Differs>>
     ensures one { IfErr result (λ difference. difference.sheet < sheets) }
 {
     let mut tally = T::none();
+    // The number of the turn is the sheet's name in a difference.
     for sheet in 0..sheets {
         let found = compared(random).map_err(|_| Difference { sheet })?;
         tally.add(found);

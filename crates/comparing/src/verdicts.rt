@@ -45,16 +45,15 @@ impl<'a> Judged<'a> {
         needs.shared(self.missed(place)).lowest()
     }
 
-    // The lowest wanting place and its lowest wanting fact, unless an action is unknown. `find_map` would need a second step
-    // to turn what it finds to a refusal.
+    // The lowest wanting place and its lowest wanting fact, unless an action is unknown.
     pub(crate) fn verdict(&self) -> Result<(), SheetFault> {
         let model = self.orders.model;
         self.task.knows(model.actions())?;
-        for place in 0..=model.steps() {
-            if let Some(fact) = self.wanting_at(place) {
-                return Err(SheetFault::WantingFact { place, fact });
-            }
-        }
-        Ok(())
+        (0..model.steps().saturating_add(1))
+            .find_map(|place| {
+                self.wanting_at(place)
+                    .map(|fact| SheetFault::WantingFact { place, fact })
+            })
+            .map_or(Ok(()), |fault| Err(fault))
     }
 }

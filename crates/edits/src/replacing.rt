@@ -9,7 +9,7 @@ ghost use Rattle.sheet.specs.Verdicts.{ChecksActions};
 use crate::pairs::rows_of;
 use shaping::{EditFault, adopt};
 use sheet::{Sheet, SheetFault, Steps, check_actions};
-use task::{Tariff, Task};
+use task::{LONGEST_LIST, Tariff, Task};
 
 // A list of actions that comes in place of `first` to `last` of a sheet, which has room for it. Its methods ask for numbers
 // below 128 one by one: a type for such a number would be taken apart in each of them.
@@ -150,7 +150,7 @@ fn asked_for(
     if list.is_empty() {
         return Err(EditFault::Empty);
     }
-    if list.len() > 128 - (n - (b + 1 - a)) {
+    if list.len() > LONGEST_LIST - (n - (b + 1 - a)) {
         return Err(EditFault::Sheet(SheetFault::TooLong));
     }
     known_asked(task, sheet, list)?;

@@ -1,4 +1,4 @@
-// Writes the program's output lines, byte for byte, into a buffer of the caller's.
+// Writes the program's output lines, byte for byte, into a buffer of the caller's: nothing below the programs allocates.
 
 #![tactic(auto)]
 
@@ -61,7 +61,8 @@ fn only_line(out: &mut [u8], word: &[u8], numbers: &[usize]) -> Result<usize, Sh
     Ok(writer.at)
 }
 
-// What is left of `room` behind a line, or `None` where the line is longer.
+// What is left of `room` behind a line, or `None` where the line is longer. It measures what `Writer::line` writes: a refusal has
+// to leave the buffer as it was.
 #[tactic(auto, using(crate::proofs::Texts::line_parts))]
 fn room_after(room: usize, word: &[u8], numbers: &[usize]) -> Option<usize>
     ensures { Left (line_text word.now numbers.now) room result }

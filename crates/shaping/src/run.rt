@@ -8,7 +8,8 @@ ghost use Rattle.sheet.specs.Sheets.{outline};
 use sets::bits::BitSet;
 use sheet::Sheet;
 
-// The positions `first` to `last`, two or more.
+// The positions `first` to `last`, two or more. The edits take the sheet and two numbers one by one, as they are called, and make a
+// run of them at once. That the steps stay, each sheet that is made of a run says of itself.
 #[derive(Clone, Copy)]
 pub(crate) struct Run<'s> {
     pub(crate) sheet: &'s Sheet,
@@ -25,6 +26,7 @@ impl<'s> Run<'s> {
             (NotInOrder (outline sheet.now) a b)
             (λ run. (run.sheet.now ≡ sheet.now) × (run.first ≡ a) × (run.last ≡ b)) }
     {
+        // By an `if`: what is made owes the test, and `then_some` would make it whatever the test says.
         if a < b && b < sheet.steps() {
             Some(Run {
                 sheet,

@@ -61,7 +61,8 @@ impl Effects<'_, '_> {
     }
 }
 
-// The facts that are added at one of the positions below `n`. By a `for`: a fold would have the same test in its closure.
+// The facts that are added at one of the positions below `n`. By a `for`: a
+// `filter` and a `fold` would be two closures for one loop.
 fn supplied(adds: &[Facts], positions: &BitSet<2>, n: usize) -> Facts
     ensures { (f : ℕ) → member result.words f ≡ some_below n (λ x. in_row adds.now x f && member positions.now.words x) }
 {

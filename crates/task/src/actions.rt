@@ -40,6 +40,7 @@ impl Action {
         ensures { MatchOption result (1000000 < price)
             (λ a. (price ≤ 1000000) × (a.needs ≡ needs) × (a.adds ≡ adds) × (a.deletes ≡ deletes) × (a.price ≡ price)) }
     {
+        // By an `if`: what is made owes the test, and `then_some` would make it whatever the test says.
         if price <= Self::HIGHEST_PRICE {
             Some(Action {
                 needs,

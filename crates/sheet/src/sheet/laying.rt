@@ -11,13 +11,13 @@ use crate::checking::{check, check_actions};
 use crate::fault::SheetFault;
 use crate::relation::Relation;
 use sets::bits::BitSet;
-use task::Task;
+use task::{LONGEST_LIST, Task};
 
 // Refuses more than 128 steps, and then what the check refuses. The sheet has the plan's steps, all ties and no block.
 pub fn lay(task: &Task, plan: &[u32]) -> Result<Sheet, SheetFault>
     ensures { Lays task.now plan.now result }
 {
-    if plan.len() > 128 {
+    if plan.len() > LONGEST_LIST {
         return Err(SheetFault::TooLong);
     }
     let steps = known_steps(task, plan)?;
