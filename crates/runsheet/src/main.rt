@@ -1,28 +1,29 @@
-// Reads a week's book and lists its plan, priced, or says why the book is refused.
+// Reads a week's book, carries out its edits and lists the sheet that they leave, or says why the book is refused.
 
 #![tactic(auto)]
 
-use answer::answer;
 use anyhow::anyhow;
 use book::load::LONGEST_BOOK;
 use std::alloc::Global;
 use std::io::Read;
 use std::{env, fs, io};
-use week::Outcome;
-
-mod answer;
+use week::{Outcome, answer};
 
 const HELP: &str = "usage: runsheet [BOOK]
 
-Reads a week's book from the file BOOK, or from standard input, and writes
-the price of its plan and the plan's steps. A book that is refused gives the
-one line `bad', the number of the refusal and the line at fault, and status 1.";
+Reads a week's book from the file BOOK, or from standard input, lays its plan
+and carries out its edits. Writes a line for each edit, `done' with what it
+saves or `no' with the number of its refusal, then the price of the sheet and
+its steps. A book that is refused gives the one line `bad' with the refusal's
+number and line, a plan that cannot be laid the one line `unlaid' with a 3, the
+place and the fact that it wants, and both give status 1.";
 
 // One byte past the longest book, so that a longer one is seen to be longer.
 const MOST_BYTES: u64 = LONGEST_BOOK as u64 + 1;
 
-// Longer than any answer: 128 steps of at most 20 bytes, and a price.
-const ANSWER_ROOM: usize = 4096;
+// Longer than any answer: the line for an edit is at most two bytes longer than the edit's own, and a listing has at most
+// 129 lines of at most 16 bytes.
+const ANSWER_ROOM: usize = 65_536;
 
 fn bytes_of<R: Read + Drop>(source: R, heap: Global) -> io::Result<Vec<u8>> {
     let mut bytes = Vec::new(heap);
