@@ -8,6 +8,9 @@ use Rattle.edits.specs.Replacing.{IsAsked, IsReplaced, NotAsked, ReplaceRefused,
 use Rattle.shaping.specs.declared.fault.EditFault.{EditFault}
 use Rattle.shaping.specs.declared.fault.EditFault.TheVariants.{NotCheaper, Sheet as OfSheet}
 use Rattle.orders.specs.Sheets.{Outline}
+use Rattle.orders.specs.EditTheorems.{BlocksAround, TiedAround}
+use Rattle.orders.proofs.EditReplace.{replace_keeps_blocks, replace_keeps_ties}
+use Rattle.sheet.proofs.SheetRules.{sheet_rules}
 use Rattle.sheet.specs.Sheets.{actions, outline}
 use Rattle.sheet.specs.Verdicts.{AllKnown, ChecksActions, FirstUnknown, Known, LowestWanting, Passes, effects_of}
 use Rattle.sheet.specs.declared.fault.SheetFault.{SheetFault}
@@ -81,4 +84,13 @@ module _ (task : Task) (before : Sheet) (a b : ℕ) (list : List ℕ) where
           later fault _ (inr (omega (arith, costs), (place, (fact, e ∙ ap OfSheet f, wanting))))
 
       pub accepted : Passes task (actions asked) (outline asked) → IsReplaced prices task before a b list (sum_by prices (actions before) - sum_by prices (actions asked)) asked
-      accepted good = record { asked = is; cheaper = omega (arith, costs); good = good; saves = omega arith }
+      accepted good =
+          let rules = sheet_rules before in
+          let m = length list in record {
+            asked = is;
+            tied_around = subst (λ (s : Outline). TiedAround (outline before) s a b m) (sym is.new_outline) (replace_keeps_ties (outline before) rules a b m is.whole);
+            blocks_around = subst (λ (s : Outline). BlocksAround (outline before) s a b m) (sym is.new_outline) (replace_keeps_blocks (outline before) rules a b m is.whole is.some);
+            cheaper = omega (arith, costs);
+            good = good;
+            saves = omega arith;
+          }

@@ -5,8 +5,9 @@ use Rattle.std.specs.Option.{option_flatten, option_map}
 use Rattle.shaping.proofs.Outlines.{outlines_same}
 use Rattle.edits.proofs.SwapLists.{same_length, same_sum}
 use Rattle.edits.specs.Swaps.{IsSwapped}
-use Rattle.orders.proofs.EditSwap.{bounds, swap_keeps_good}
-use Rattle.orders.specs.Edits.{Neighbours, carried, comes, swapped}
+use Rattle.orders.proofs.EditSwap.{bounds, swap_carries_blocks, swap_keeps_good, swap_renames_orders}
+use Rattle.orders.specs.EditTheorems.{BlocksCarried, OrdersRenamed}
+use Rattle.orders.specs.Edits.{Neighbours, carried, comes, goes, swapped}
 use Rattle.orders.specs.Facts.{Effects, Good}
 use Rattle.orders.specs.Sheets.{Outline}
 use Rattle.sets.specs.Contents.{contents}
@@ -45,6 +46,8 @@ swapped_is before after a m b k is-k parts free order is =
       untied = free;
       new_outline = order;
       new_actions = is;
+      blocks_carried = subst (λ (s : Outline). BlocksCarried (outline before) s (goes a m b) (comes a m b)) (sym order) (swap_carries_blocks (outline before) rules a m b parts);
+      orders_renamed = subst (λ (s : Outline). OrdersRenamed (outline before) s (goes a m b) (comes a m b)) (sym order) (swap_renames_orders (outline before) rules a m b parts);
       stays_good = λ task good.
           subst (λ (e : Effects). Good (outline after) e) (sym (carried_effects task (actions before) (actions after) (comes a m b) is))
           (subst (λ (s : Outline). Good s (carried (comes a m b) (effects task before))) (sym order) (swap_keeps_good (outline before) rules a m b parts (effects task before) good));

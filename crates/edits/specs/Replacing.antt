@@ -2,6 +2,7 @@
 use Rattle.std.specs.Prelude.{◌≡◌, ℕ, suc, ◌+◌, ◌-◌, ◌<◌, ◌≤◌, ◌⊎◌, List, ◌++◌, length, take, drop, sum_by, Result, MatchResult}
 use Rattle.shaping.specs.declared.fault.EditFault.{EditFault}
 use Rattle.shaping.specs.declared.fault.EditFault.TheVariants.{Position, Block, Empty, NotCheaper, Sheet as OfSheet}
+use Rattle.orders.specs.EditTheorems.{BlocksAround, TiedAround}
 use Rattle.orders.specs.Edits.{IsMember, replaced}
 use Rattle.orders.specs.Sheets.{Outline}
 use Rattle.sheet.specs.Sheets.{actions, outline}
@@ -64,6 +65,9 @@ pub record IsAsked (task : Task) (before : Sheet) (a b : ℕ) (list : List ℕ) 
 -- after is the sheet asked for, which passes the check and costs that much less
 pub record IsReplaced (prices : ℕ → ℕ) (task : Task) (before : Sheet) (a b : ℕ) (list : List ℕ) (saving : ℕ) (after : Sheet) : Type 0 where
   pub asked : IsAsked task before a b list after
+  -- the new steps are tied to the others as all that they replace was, and the blocks around stay
+  pub tied_around : TiedAround (outline before) (outline after) a b (length list)
+  pub blocks_around : BlocksAround (outline before) (outline after) a b (length list)
   pub cheaper : IsCheaper prices (actions before) a b list
   pub good : Passes task (actions after) (outline after)
   pub saves : sum_by prices (actions before) ≡ sum_by prices (actions after) + saving

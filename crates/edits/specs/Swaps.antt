@@ -3,7 +3,8 @@ use Rattle.std.specs.Prelude.{◌≡◌, ℕ, ◌-◌, ◌<◌, ◌≤◌, true,
 use Rattle.std.specs.List.{slice_get}
 use Rattle.shaping.specs.declared.fault.EditFault.{EditFault}
 use Rattle.shaping.specs.declared.fault.EditFault.TheVariants.{Position, Tie}
-use Rattle.orders.specs.Edits.{Neighbours, comes, swapped}
+use Rattle.orders.specs.EditTheorems.{BlocksCarried, OrdersRenamed}
+use Rattle.orders.specs.Edits.{Neighbours, comes, goes, swapped}
 use Rattle.orders.specs.Facts.{Good}
 use Rattle.orders.specs.Sheets.{Outline}
 use Rattle.sheet.specs.Sheets.{actions, outline}
@@ -25,6 +26,10 @@ pub record IsSwapped (before : Sheet) (k : ℕ) (after : Sheet) : Type 0 where
   pub new_outline : outline after ≡ swapped (outline before) first k last
   -- every action goes with its position
   pub new_actions : (x : ℕ) → slice_get (actions after) x ≡ slice_get (actions before) (comes first k last x)
+  -- each block goes with its positions
+  pub blocks_carried : BlocksCarried (outline before) (outline after) (goes first k last) (comes first k last)
+  -- the running orders are the old ones, renamed
+  pub orders_renamed : OrdersRenamed (outline before) (outline after) (goes first k last) (comes first k last)
   -- if no fact is wanting before, none is after
   pub stays_good : (task : Task) → Good (outline before) (effects task before) → Good (outline after) (effects task after)
   -- whatever each action costs, all of them cost the same

@@ -4,10 +4,11 @@ use Rattle.std.proofs.lemmas.Bool.{cases_Bool, cases_lt, le-leb}
 use Rattle.std.proofs.lemmas.Bool.Decides.{nat_tests}
 use Rattle.shaping.specs.Answers.{Crossed, IsGrouped, crosses}
 use Rattle.orders.proofs.Below.{below_is, refuted}
-use Rattle.orders.proofs.EditGroup.{group_adds_fewest, group_keeps_good}
+use Rattle.orders.proofs.EditGroup.{group_adds_fewest, group_keeps_good, group_orders_are_old}
 use Rattle.orders.specs.Check.{inside, some_below}
 use Rattle.orders.specs.Edits.{CanGroup, grouped}
 use Rattle.orders.specs.Facts.{Good}
+use Rattle.orders.specs.Running.{RunningOrder}
 use Rattle.orders.specs.Sheets.{Outline, Rules}
 use Rattle.sheet.specs.Sheets.{actions, outline}
 use Rattle.sheet.specs.Verdicts.{effects, effects_of}
@@ -24,6 +25,7 @@ grouped_is before after a b can free same e = record {
   same_actions = same;
   new_outline = e;
   fewest_ties = λ t rules block old x y h. group_adds_fewest (outline before) t rules a b block old x y (sym (ap (λ (s : Outline). s.tied x y) e) ∙ h);
+  orders_are_old = λ order h. group_orders_are_old (outline before) a b order (subst (λ s. RunningOrder s order) e h);
   stays_good = λ task good. subst (λ numbers. Good (outline after) (effects_of task numbers)) (sym same) (subst (λ s. Good s (effects task before)) (sym e) (group_keeps_good (outline before) a b (effects task before) good));
 }
 

@@ -3,6 +3,7 @@ use Rattle.std.specs.Prelude.{◌≡◌, ℕ, ◌<◌, ◌≤◌, Bool, true, fa
 use Rattle.shaping.specs.declared.fault.EditFault.{EditFault}
 use Rattle.shaping.specs.declared.fault.EditFault.TheVariants.{Position, Block, Tie, Between, Sheet as OfSheet}
 use Rattle.orders.specs.Check.{together}
+use Rattle.orders.specs.EditTheorems.{OrdersAmong}
 use Rattle.orders.specs.Edits.{CanGroup, CanLoosen, grouped, loosened, ungrouped}
 use Rattle.orders.specs.Facts.{Good}
 use Rattle.orders.specs.Sheets.{Outline, Rules}
@@ -36,6 +37,8 @@ pub record IsGrouped (before : Sheet) (a b : ℕ) (after : Sheet) : Type 0 where
   pub new_outline : outline after ≡ grouped (outline before) a b
   -- whatever keeps the rules, has a to b as a block and has the ties of before, has the ties of after
   pub fewest_ties : (t : Outline) → Rules t → t.block a b ≡ true → ((x y : ℕ) → (outline before).tied x y ≡ true → t.tied x y ≡ true) → (x y : ℕ) → (outline after).tied x y ≡ true → t.tied x y ≡ true
+  -- every running order was one before
+  pub orders_are_old : OrdersAmong (outline before) (outline after)
   -- if no fact is wanting before, none is after
   pub stays_good : (task : Task) → Good (outline before) (effects task before) → Good (outline after) (effects task after)
 
