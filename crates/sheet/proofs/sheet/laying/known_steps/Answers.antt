@@ -6,18 +6,12 @@ use Rattle.std.proofs.lemmas.Iterator.Consumers.{YieldsList-at}
 use Rattle.std.proofs.iter.Yields.{fronts}
 use Rattle.sheet.proofs.Laid.{known_small}
 use Rattle.sheet.proofs.sheet.laying.known_steps.Goals as goal
-use Rattle.std.proofs.lemmas.Result.{err_from_is_err_and}
 
 pub collect-requires : goal.collect-requires
 collect-requires c =
     let plan = c.args.plan.now in
     let road : YieldsList fronts (λ (y : Bor ℕ). y.now) c.map.result.iter plan = YieldsList-from_slice plan (cc) in
     (omega arith, ((tt, serves_from_places road (λ x q k. search rules) (λ x k l e. omega (arith, e, known_small c.args.task.now plan c.in_ok-check_actions.ensures k, get_or_default plan k x.now 0 l))), search rules))
-
-pub returns-in_err-check_actions : goal.returns-in_err-check_actions
-returns-in_err-check_actions c =
-    let p = err_from_is_err_and c.from_residual.result c.from_residual.ensures.1 in
-    rw (p.1, p.2) c.in_err-check_actions.ensures
 
 pub returns : goal.returns
 returns c =
