@@ -32,7 +32,8 @@ fn shaped(random: &mut Random, task: &PlainTask, steps: usize) -> Result<Sheet, 
 }
 
 // Compares one sheet; refused where the check says something else than the list of running orders.
-// `random` and `price` stay two, here and where they are handed on: the one is changed, and the other called with it.
+// `random` and `price` stay two, here and where they are handed on: the one is changed, and the other called with it. That it
+// can be called is what each call of a closure asks.
 fn compared<P: Fn(&mut Random) -> u32>(random: &mut Random, price: &P) -> Result<Shape, Differs>
     requires { P.IsAlwaysCallable price.now }
 {
