@@ -28,7 +28,7 @@ impl Model {
         }
     }
 
-    // What the sheet says of itself.
+    // What the sheet says of itself, asked question by question: a `From` would name that no better.
     pub(crate) fn read(sheet: &Sheet) -> Self {
         let n = sheet.steps();
         let blocks = pairs_where(n, |(a, b)| sheet.is_block(a, b));

@@ -22,6 +22,7 @@ pub(crate) trait Tally: Drop {
 }
 
 // Counts so many sheets; `compared` makes and compares one. Either none of them differs, or the first that does is named.
+// Both public comparisons promise these clauses again, each of its own counts.
 pub(crate) fn tallied<T: Tally, F: Fn(&mut Random) -> Result<T::Found, Differs>>(
     random: &mut Random,
     sheets: u32,

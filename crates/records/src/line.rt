@@ -62,6 +62,7 @@ fn record_of(word: Word, fields: &[u8]) -> Result<Record<'_>, FieldFault>
         Word::Goal => Ok(Record::Set(Side::Goal, set(fields)?)),
         Word::Step => Ok(Record::Step(number(fields)?)),
         Word::Swap => Ok(Record::Edit(Edit::Swap(number(fields)?))),
+        // Three arms read a pair, here and below: each names another variant, and a closure for it would be no shorter.
         Word::Group => {
             let (first, last) = pair(fields)?;
             Ok(Record::Edit(Edit::Group(first, last)))

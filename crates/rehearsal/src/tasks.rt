@@ -28,6 +28,7 @@ const IDLE: [Row; 5] = [
     Row(0, &[], &[], &[]),
 ];
 
+// The tests of `task` have this line too: a public function would serve these two places alone.
 pub fn set_of(facts: &[usize]) -> Facts {
     Facts::below_where(Task::MOST_FACTS, |fact| facts.contains(&fact))
 }

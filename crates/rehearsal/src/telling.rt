@@ -71,6 +71,7 @@ impl fmt::Display for Blocks<'_> {
     fn fmt<W: fmt::Write>(&self, f: &mut fmt::Formatter<W>) -> fmt::Result {
         let sheet = self.0;
         let n = sheet.steps();
+        // `comparing` makes lists of such pairs, for small sheets alone.
         let pairs = (0..n).flat_map(|a| (0..n).map(move |b| (a, b)));
         for (a, b) in pairs.filter(|(a, b)| sheet.is_block(*a, *b)) {
             write!(f, " {a}-{b}")?;
@@ -140,7 +141,7 @@ impl<'a, T: Tariff> Rehearsal<'a, T> {
         Ok(())
     }
 
-    // The same, telling the sheet behind each of them.
+    // The same, telling the sheet behind each of them: a closure for that one line would be no shorter.
     pub fn edits_and_sheets(&self, sheet: &mut Sheet, edits: &[Edit<'_>]) -> anyhow::Result<()> {
         for edit in edits {
             self.edit(sheet, *edit)?;

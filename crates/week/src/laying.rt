@@ -36,7 +36,8 @@ pub fn lay_week(book: &[u8]) -> Result<LaidWeek, Reply>
     Ok(LaidWeek { task, sheet })
 }
 
-// The line for a loaded book's plan that cannot be laid.
+// The line for a loaded book's plan that cannot be laid. No `From`: it asks that the fault be the one such a plan can have, and
+// neither type is of this crate.
 fn unlaid(fault: SheetFault) -> Reply
     requires { (place : ℕ) × ((fact : ℕ) × (fault ≡ WantingFact place fact)) }
     ensures { (place fact : ℕ) → fault ≡ WantingFact place fact → result ≡ Unlaid place fact }
