@@ -1,19 +1,16 @@
 -- What holds of all five edits follows from the rule of each.
-use Rattle.std.proofs.Common.{◌≡◌, ℕ, ◌+◌, List, length, Ok, Err, sum_by, Result, sym, ap, subst, arith}
-use Rattle.edits.proofs.SwapLaws.{comes_lt}
-use Rattle.edits.proofs.SwapLists.{same_get_or}
+use Rattle.std.proofs.Common.{◌≡◌, ℕ, ◌+◌, List, Ok, Err, sum_by, Result, sym, subst, arith}
+use Rattle.edits.proofs.SwapSheets.{swap_known}
 use Rattle.shaping.specs.Answers.{Groups, IsChecked, Loosens, Ungroups}
 use Rattle.edits.specs.Applying.{Applies, ByRule, saved, with_no_saving}
 use Rattle.edits.specs.Replacing.{Replaces}
 use Rattle.edits.specs.Swaps.{IsSwapped, Swaps}
 use Rattle.shaping.specs.declared.fault.EditFault.{EditFault}
-use Rattle.orders.proofs.EditSwap.{bounds}
 use Rattle.orders.specs.Changes.{Change}
 use Rattle.orders.specs.Changes.Change.{swap, group, ungroup, loosen, replace}
 use Rattle.orders.specs.Sheets.{Outline}
-use Rattle.sheet.proofs.SheetRules.{sheet_rules}
 use Rattle.sheet.specs.Sheets.{actions, outline}
-use Rattle.sheet.specs.Verdicts.{AllKnown, Known, Passes}
+use Rattle.sheet.specs.Verdicts.{Passes}
 use Rattle.sheet.specs.declared.sheet.Sheet.{Sheet}
 use Rattle.task.specs.declared.tasks.Task.{Task}
 
@@ -42,16 +39,10 @@ module _ (prices : ℕ → ℕ) (task : Task) (before after : Sheet) where
   checked asked is = same_steps is.same_actions (λ _. subst (λ (s : Outline). Passes task (actions after) s) (sym is.new_outline) (subst (λ numbers. Passes task numbers asked) (sym is.same_actions) is.passes))
 
   module _ (k : ℕ) (is : IsSwapped before k after) where
-    -- every action after a swap stood somewhere before it
-    swap_known : AllKnown task (actions before) → AllKnown task (actions after)
-    swap_known known x l =
-        let n = bounds (outline before) (sheet_rules before) is.first k is.last is.parts in
-        let size : length (actions after) ≡ length (actions before) = ap (λ (s : Outline). s.size) is.new_outline in
-        let there = known _ (comes_lt is.first k is.last n.left n.right x (length (actions before)) n.size (omega arith)) in
-        subst (Known task) (sym (same_get_or (actions before) (actions after) _ x (is.new_actions x))) there
-
     swapped_owed : Owed (Ok 0)
-    swapped_owed = accepted 0 (λ (known, good). (swap_known known, is.stays_good task good)) (omega (arith, is.same_price prices))
+    swapped_owed =
+        let all = swap_known before is.first k is.last is.parts (actions after) is.new_actions task in
+        accepted 0 (λ (known, good). (all known, is.stays_good task good)) (omega (arith, is.same_price prices))
 
   swap_owed : (k : ℕ) (r : Result (Unit {0}) EditFault) → Swaps before k r after → Owed (with_no_saving r)
   swap_owed k (Ok _) is = swapped_owed k is

@@ -25,6 +25,13 @@ module _ (task : Task) (xs ys : List ℕ) (known : AllKnown task (xs ++ ys)) whe
   pub known_back : AllKnown task ys
   known_back k l = rw (sym (get_or-append-add xs ys k 0)) (known (length xs + k) (omega (arith, length-append xs ys)))
 
+  -- if the task has all of both lists, it has all of what comes out
+  pub put_in_known : (a b : ℕ) → AllKnown task (put_in xs a b ys)
+  put_in_known a b k l =
+      let old = All-from_get_or (Known task) xs 0 known_front in
+      let new = All-from_get_or (Known task) ys 0 known_back in
+      All-get_or (Known task) (put_in xs a b ys) k 0 l (put_in_all xs a b ys (Known task) old new)
+
 -- what the check of two lists of action numbers says, one after the other
 module _ (task : Task) (xs ys : List ℕ) where
   pub first_in_front : (number : ℕ) → FirstUnknown task xs number → FirstUnknown task (xs ++ ys) number
@@ -65,9 +72,7 @@ module _ (task : Task) (before : Sheet) (a b : ℕ) (list : List ℕ) where
     later fault Later h = inr (is.run, inr (is.whole, inr (is.some, inr (is.room, inr (is.known, h)))))
 
     known_asked : AllKnown task (actions asked)
-    known_asked k l =
-        let numbers = put_in_all (actions before) a b list (Known task) (All-from_get_or (Known task) _ 0 (known_front task (actions before) list is.known)) (All-from_get_or (Known task) _ 0 (known_back task (actions before) list is.known)) in
-        All-get_or (Known task) (actions asked) k 0 l (rw is.new_actions numbers)
+    known_asked = rw is.new_actions (put_in_known task (actions before) list is.known a b)
 
     costs : sum_by prices (actions asked) + sum_by prices (from_to (actions before) a b) ≡ sum_by prices (actions before) + sum_by prices list
     costs = ap (λ (l : List ℕ). sum_by prices l + sum_by prices (from_to (actions before) a b)) is.new_actions ∙ sum_by-put_in (actions before) a b list is.run.0 is.run.1 prices

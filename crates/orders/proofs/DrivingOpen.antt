@@ -3,8 +3,7 @@ use Rattle.std.proofs.Common.{◌≡◌, ℕ, suc, ◌+◌, ◌-◌, ◌<◌, �
 use Rattle.std.proofs.lemmas.Bool.{cases_lt}
 use Rattle.orders.proofs.DrivingPlaces.{block_entered, entry_once, tied_earlier}
 use Rattle.orders.proofs.Least.{Known, Least, known_below, known_both, known_le, known_true, least}
-use Rattle.orders.proofs.Pigeonhole.{differ_fit}
-use Rattle.orders.proofs.Places.{place_same}
+use Rattle.orders.proofs.Places.{has_all, place_same}
 use Rattle.orders.specs.Driving.{Driven, Lacks, Open}
 use Rattle.orders.specs.DrivingTheorems.{NoDeadEnd}
 use Rattle.orders.specs.Running.{Has, place}
@@ -64,7 +63,7 @@ some_undone n done h = ⊎_elim
     (λ l. l)
     (λ none.
     let has : (x : ℕ) → x < n → Has done x = λ x l. ⊎_elim (λ g. g) (λ g. absurd (none x l g)) (cases_lt (place x done) (length done)) in
-    absurd (omega (arith, differ_fit n (length done) (λ x. place x done) (record { below = has; apart = λ x y l m. place_same x y done (has x l) }))))
+    absurd (omega (arith, has_all n done has)))
     (least (Lacks done) (known_lacks done) n)
 
 module _ (s : Outline) (done : List ℕ) (driven : Driven s done) where

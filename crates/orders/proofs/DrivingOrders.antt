@@ -1,12 +1,12 @@
 -- Drivings to the end are the running orders, and every driving is the front of one.
-use Rattle.std.proofs.Common.{◌≡◌, ℕ, zero, suc, ◌+◌, ◌-◌, ◌<◌, ◌⊎◌, List, [], ◌∷◌, ◌++◌, length, get_or, sym, ap, ◌∙◌, inl, inr, ⊎_elim, arith}
+use Rattle.std.proofs.Common.{◌≡◌, ℕ, zero, suc, ◌+◌, ◌-◌, ◌<◌, ◌≤◌, ◌⊎◌, List, [], ◌∷◌, ◌++◌, length, get_or, sym, ap, ◌∙◌, inl, inr, ⊎_elim, arith}
 use Rattle.std.proofs.lemmas.List.{append_assoc, append-nil, get_or_append_left, get_or_push, length_push, take-append-le, take_at}
 use Rattle.std.proofs.lemmas.Bool.{cases_lt}
 use Rattle.orders.proofs.DrivingOpen.{no_dead_end}
 use Rattle.orders.proofs.DrivingPlaces.{block_entered, entry_once, front_is, place_entry, tied_earlier}
 use Rattle.orders.proofs.Pigeonhole.{Differ, differ_fit, differ_miss}
-use Rattle.orders.proofs.Places.{place_le, place_same}
-use Rattle.orders.specs.Driving.{Driven, Open}
+use Rattle.orders.proofs.Places.{has_all, place_le, place_same}
+use Rattle.orders.specs.Driving.{Driven, Lacks, Open}
 use Rattle.orders.specs.DrivingTheorems.{DrivingEndsRunning, DrivingIsFront, RunningIsDriven}
 use Rattle.orders.specs.Running.{Has, RunningOrder, place}
 use Rattle.orders.specs.Sheets.{Inside, Outline, Outside, Rules}
@@ -20,6 +20,16 @@ entries_differ n l below once = record {
 
 driven_differ : (s : Outline) (done : List ℕ) → Driven s done → Differ (length done) s.size (λ k. get_or done k 0)
 driven_differ s done driven = entries_differ s.size done (λ k h. (driven k h).position) (entry_once s done driven)
+
+-- no more are done than there are positions
+pub driven_fits : (s : Outline) (done : List ℕ) → Driven s done → length done ≤ s.size
+driven_fits s done driven = differ_fit (length done) s.size (λ k. get_or done k 0) (driven_differ s done driven)
+
+-- while a position is undone, not all are done
+pub driven_room : (s : Outline) (done : List ℕ) (x : ℕ) → Driven s done → x < s.size → Lacks done x → length done < s.size
+driven_room s done x driven h lacks =
+    differ_miss (length done) s.size x (λ k. get_or done k 0) (driven_differ s done driven) h
+    (λ k l e. omega (arith, ap (λ y. place y done) e, place_entry k done l))
 
 cases_inside : (a b x : ℕ) → Inside a b x ⊎ Outside a b x
 cases_inside a b x = ⊎_elim (λ l. inr (inl l)) (λ h. ⊎_elim (λ l. inr (inr l)) (λ g. inl (h, g)) (cases_lt b x)) (cases_lt x a)
@@ -44,24 +54,17 @@ driving_ends_running s rules order driven e = record {
     complete : (x : ℕ) → x < s.size → Has order x
     complete x h = ⊎_elim
         (λ g. g)
-        (λ g. absurd (omega (
-          arith,
-          differ_miss (length order) s.size x (λ k. get_or order k 0) (driven_differ s order driven) h
-              (λ k l m. omega (arith, ap (λ y. place y order) m, place_entry k order l)),
-        )))
+        (λ g. absurd (omega (arith, driven_room s order x driven h g)))
         (cases_lt (place x order) (length order))
 
 pub running_length : (s : Outline) (order : List ℕ) → RunningOrder s order → length order ≡ s.size
 running_length s order running = omega (
   arith,
   differ_fit (length order) s.size (λ k. get_or order k 0) (entries_differ s.size order running.positions running.once),
-  differ_fit s.size (length order) (λ x. place x order) (record {
-    below = running.complete;
-    apart = λ x y h g. place_same x y order (running.complete x h);
-  }),
+  has_all s.size order running.complete,
 )
 
-running_open : (s : Outline) (order : List ℕ) → RunningOrder s order → Driven s order
+pub running_open : (s : Outline) (order : List ℕ) → RunningOrder s order → Driven s order
 running_open s order running k h =
     let p = get_or order k 0 in
     let at : place p order ≡ k = running.once k h in
@@ -97,5 +100,5 @@ complete_driving s rules (suc n) done driven e =
 
 pub driving_is_front : DrivingIsFront
 driving_is_front s rules done driven =
-    let h = differ_fit (length done) s.size (λ k. get_or done k 0) (driven_differ s done driven) in
+    let h = driven_fits s done driven in
     complete_driving s rules (s.size - length done) done driven (omega arith)

@@ -14,7 +14,6 @@ pub mod Least
 pub mod Parts
 pub mod Pigeonhole
 pub mod Places
-pub mod SmallSheets
 pub mod Sorting
 pub mod Standing
 pub mod Tested

@@ -1,7 +1,8 @@
 -- The place of a number in a list.
-use Rattle.std.proofs.Common.{◌≡◌, ℕ, zero, suc, ◌+◌, ◌-◌, ◌≤◌, min, eqb, ◌⊎◌, List, [], ◌∷◌, length, get_or, sym, ap, ◌∙◌, inl, inr, ⊎_elim, arith}
+use Rattle.std.proofs.Common.{◌≡◌, ℕ, zero, suc, ◌+◌, ◌-◌, ◌<◌, ◌≤◌, min, eqb, ◌⊎◌, List, [], ◌∷◌, length, get_or, sym, ap, ◌∙◌, inl, inr, ⊎_elim, arith}
 use Rattle.std.proofs.lemmas.Bool.{cases_eq, cases_lt, cond-false, cond-true, eq-eqb, ne_eqb}
 use Rattle.std.specs.List.{range_with_len}
+use Rattle.orders.proofs.Pigeonhole.{differ_fit}
 use Rattle.orders.specs.Running.{Has, place}
 
 pub place_here : (x y : ℕ) (l : List ℕ) → x ≡ y → place x (y ∷ l) ≡ 0
@@ -34,6 +35,10 @@ get_or-place x (y ∷ l) h = go (get_or-place x l) (cases_place x y l)
 
 pub place_same : (x y : ℕ) (l : List ℕ) → Has l x → place x l ≡ place y l → x ≡ y
 place_same x y l h e = sym (get_or-place x l h) ∙ (ap (λ k. get_or l k 0) e ∙ get_or-place y l (omega arith))
+
+-- a list that has every number below n has n entries or more
+pub has_all : (n : ℕ) (l : List ℕ) → ((x : ℕ) → x < n → Has l x) → n ≤ length l
+has_all n l all = differ_fit n (length l) (λ x. place x l) (record { below = all; apart = λ x y h g. place_same x y l (all x h) })
 
 pub place_counting : (x a n : ℕ) → a ≤ x → place x (range_with_len a n) ≡ min (x - a) n
 place_counting x a zero h = omega arith

@@ -14,12 +14,12 @@ use Rattle.orders.specs.Running.{Earlier, RunningOrder, place}
 use Rattle.orders.specs.Sheets.{Outline, Rules}
 use Rattle.orders.specs.Theorems.{TestDecidesWanting}
 
-needed_place : (s : Outline) (e : Effects) (p f : ℕ) → needed s e p f ≡ true → p ≤ s.size
+pub needed_place : (s : Outline) (e : Effects) (p f : ℕ) → needed s e p f ≡ true → p ≤ s.size
 needed_place s e p f h = grind (arith, nat_tests, h)
 
 module _ (s : Outline) (rules : Rules s) (order : List ℕ) (runs : RunningOrder s order) where
   -- the place after the last step comes behind all
-  place_end : place s.size order ≡ length order
+  pub place_end : place s.size order ≡ length order
   place_end = place_absent s.size order (λ h. omega (arith, get_or-place s.size order h, runs.positions (place s.size order) h))
 
   runs_leads : (x y : ℕ) → leads s x y ≡ true → Earlier order x y

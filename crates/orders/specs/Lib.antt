@@ -8,5 +8,4 @@ pub mod Facts
 pub mod Lists
 pub mod Running
 pub mod Sheets
-pub mod SmallSheets
 pub mod Theorems

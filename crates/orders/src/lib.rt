@@ -3,7 +3,6 @@
 
 ghost use Rattle.orders.specs.DrivingTheorems.{DrivingEndsRunning, DrivingIsFront, NoDeadEnd, RunningIsDriven};
 ghost use Rattle.orders.specs.EditTheorems.{GroupAddsFewest, GroupKeepsGood, GroupKeepsRules, GroupOrdersAreOld, LoosenKeepsRules, NeighboursMeet, PartsAreTiedAlike, ReplaceKeepsBlocks, ReplaceKeepsRules, ReplaceKeepsTies, SwapCarriesBlocks, SwapKeepsGood, SwapKeepsRules, SwapRenamesOrders, SwapUndone, UngroupKeepsRules};
-ghost use Rattle.orders.specs.SmallSheets.{EveryRowHolds};
 ghost use Rattle.orders.specs.Theorems.{HomeIsRunning, TestDecidesWanting};
 
 // In every sheet that keeps its rules, a fact is wanting at a place exactly when the test says so.
@@ -34,11 +33,6 @@ pub fn every_running_order_can_be_driven()
 // Every driving is the front of a running order.
 pub fn every_driving_is_the_front_of_a_running_order()
     ensures { DrivingIsFront }
-{}
-
-// What is wanting in each of the small sheets of the table, by their running orders.
-pub fn every_small_sheet_is_as_the_table_says()
-    ensures { EveryRowHolds }
 {}
 
 // Where it may be made, group keeps the rules.

@@ -1,10 +1,11 @@
 -- What steps do in a task, and the facts that it leaves wanting.
-use Rattle.std.proofs.Common.{◌≡◌, ℕ, zero, suc, ◌+◌, ◌<◌, ◌≤◌, Bool, true, false, not, ◌&&◌, ◌||◌, ◌⊎◌, List, length, refl, ap, inl, inr, add-one, arith}
+use Rattle.std.proofs.Common.{◌≡◌, ℕ, zero, suc, ◌+◌, ◌<◌, ◌≤◌, Bool, true, false, not, ◌&&◌, ◌||◌, ◌⊎◌, List, length, Some, None, Option, refl, ap, inl, inr, add-one, arith}
 use Rattle.std.proofs.lemmas.Option.{slice_get_past}
-use Rattle.std.proofs.lemmas.Bool.{cases_Bool}
+use Rattle.std.proofs.lemmas.Bool.{cases_Bool, false≢true}
 use Rattle.std.specs.List.{slice_get}
 use Rattle.std.specs.Option.{option_flatten, option_map}
 use Rattle.orders.specs.Check.{some_below}
+use Rattle.sets.proofs.Members.{member_lt}
 use Rattle.sets.specs.Contents.{contents}
 use Rattle.sets.specs.declared.bits.BitSet.{BitSet}
 use Rattle.sheet.specs.Verdicts.{action_at, has_fact}
@@ -14,6 +15,11 @@ use Rattle.task.specs.declared.tasks.Task.{Task}
 -- past the last step there is nothing
 pub nothing_past : (part : Action → BitSet 1) (task : Task) (numbers : List ℕ) (p : ℕ) → length numbers ≤ p → (f : ℕ) → has_fact part (action_at task numbers p) f ≡ false
 nothing_past part task numbers p l f = ap (λ o. has_fact part (option_flatten (option_map (slice_get (contents task.actions)) o)) f) (slice_get_past numbers p l)
+
+-- no set of an action has a fact from 64 on
+pub has_small : (part : Action → BitSet 1) (o : Option Action) (f : ℕ) → has_fact part o f ≡ true → f < 64
+has_small part None f h = absurd (false≢true h)
+has_small part (Some a) f h = omega (arith, member_lt (part a) f h)
 
 -- what is wanting after one more taker
 pub more_wanting : (needed never before here : Bool) → ((needed && (never || before)) || (needed && here)) ≡ (needed && (never || (here || before)))
