@@ -1,0 +1,4 @@
+pub mod Bad
+pub mod Done
+pub mod Good
+pub mod Laid

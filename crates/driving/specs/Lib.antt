@@ -1,0 +1,4 @@
+pub mod Calls
+pub mod Drivings
+pub mod Meanings
+pub mod Theorems
