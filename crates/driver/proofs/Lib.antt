@@ -1,0 +1,4 @@
+pub mod Slips
+pub mod Steps
+pub mod Undone
+pub mod Well
