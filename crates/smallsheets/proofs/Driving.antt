@@ -2,19 +2,17 @@
 use Rattle.std.proofs.Common.{◌≡◌, ℕ, zero, suc, ◌+◌, ◌<◌, Bool, true, false, not, ◌&&◌, ◌||◌, eqb, ltb, List, [], ◌∷◌, ◌++◌, length, get_or, take, Decides, sym, refl, ap, ◌∙◌, subst, ⊎_elim, arith, take-suc}
 use Rattle.std.proofs.lemmas.List.{length_push, take_all}
 use Rattle.std.proofs.lemmas.Bool.{and_from, and_parts, both_ways, cases_Bool, eqb-true, false≢true, le-ltb, lt-ltb, ltb-false, ltb-true, not_from_false, not-true, or_cases, or_left, or_right}
+use Rattle.driving.proofs.Done.{has}
 use Rattle.orders.proofs.Below.{below_is}
 use Rattle.orders.proofs.DrivingOrders.{driving_ends_running, running_is_driven}
 use Rattle.orders.proofs.EditRuns.{inside_is, is_inside}
 use Rattle.orders.proofs.Tested.{all_below, all_pass, below_at}
 use Rattle.orders.specs.Check.{inside, some_below}
 use Rattle.orders.specs.Driving.{Driven, Lacks, Open}
-use Rattle.orders.specs.Running.{Has, RunningOrder, place}
+use Rattle.orders.specs.Running.{Has, RunningOrder}
 use Rattle.orders.specs.Sheets.{Inside, Outline, Rules}
 use Rattle.smallsheets.specs.Rows.{among, same_list}
 use Rattle.smallsheets.proofs.Fitting.{lists_same}
-
-abbrev has : List ℕ → ℕ → Bool
-has done x = ltb (place x done) (length done)
 
 -- whether some but not all positions of a to b are done
 abbrev partly : ℕ → List ℕ → ℕ → ℕ → Bool

@@ -1,5 +1,5 @@
 -- One test of a row, and that a row that passes it holds.
-use Rattle.std.proofs.Common.{◌≡◌, ℕ, ◌<◌, Bool, true, ◌&&◌, leb, List, [], length, Ok, Err, Decides, Result, sym, refl, ap, ◌∙◌, subst, inl, inr, arith}
+use Rattle.std.proofs.Common.{◌≡◌, ℕ, ◌<◌, Bool, true, ◌&&◌, leb, List, [], length, Ok, Err, Decides, Result, Some, None, sym, refl, ap, ◌∙◌, subst, inl, inr, arith}
 use Rattle.std.proofs.lemmas.Bool.{and_parts, le-leb, lt-leb}
 use Rattle.edits.specs.Applying.{Applies}
 use Rattle.shaping.specs.declared.fault.EditFault.{EditFault}
@@ -17,9 +17,9 @@ use Rattle.sheet.specs.declared.fault.SheetFault.{SheetFault}
 use Rattle.sheet.specs.declared.sheet.Sheet.{Sheet}
 use Rattle.task.specs.Prices.{priced}
 use Rattle.task.specs.declared.tasks.Task.{Task}
-use Rattle.smallsheets.specs.Rows.{Answer, Holds, Row, among, different, judged, said}
+use Rattle.smallsheets.specs.Rows.{Answer, Holds, Row, TakesJust, among, different, judged, said}
 use Rattle.smallsheets.specs.Rows.Answer.{accepted, refused}
-use Rattle.smallsheets.specs.Rows.Row.{check, edit, lay, next, not_laid, runs}
+use Rattle.smallsheets.specs.Rows.Row.{check, edit, lay, not_laid, runs, taken, takes}
 use Rattle.smallsheets.specs.Small.{ArePrices, IsSheet, IsTask, SmallSheet, SmallTariff, SmallTask}
 use Rattle.smallsheets.specs.Small.SmallTariff.{book}
 use Rattle.smallsheets.specs.Table.{EveryRowHolds, table}
@@ -29,6 +29,7 @@ use Rattle.smallsheets.proofs.Fitting.{answers_same, fits, fits_is, same_answer}
 use Rattle.smallsheets.proofs.Judging.{judge, judge_passes, judge_refused}
 use Rattle.smallsheets.proofs.MakingSheets.{fits_sheet, made_sheet, small_rules}
 use Rattle.smallsheets.proofs.MakingTasks.{fits_tariff, fits_task, made_prices, made_task}
+use Rattle.smallsheets.proofs.Taking.{takes_none, takes_open}
 use Rattle.smallsheets.proofs.Views.{Page, View, outline_of, page_of, same_page, same_view, small_page, small_view, view_of}
 
 -- what the check says of a page
@@ -60,8 +61,9 @@ row_test (edit small tariff old change answer new) =
     (fits_task small && (fits_tariff tariff && fits_sheet old))
     && (same_answer (answer_to (small_view small tariff) (small_page old) change) answer
     && fits (left answer (asked_by (small_page old) change) (small_page old)) new)
-row_test (next page done ready) =
+row_test (takes page done ready) =
     fits_sheet page && (all_low (length page.actions) ready && all_below (length page.actions) (λ p. alike (listed ready p) (is_open (outline_of page) done p)))
+row_test (taken page done p) = fits_sheet page
 row_test (runs page orders) = different orders && (fits_sheet page && (all_driven (outline_of page) orders && covered (outline_of page) orders (length page.actions) []))
 
 -- the tasks and sheets of a row show what the small ones do
@@ -121,9 +123,15 @@ row_holds (edit small tariff old change answer new) t =
     let b = and_parts (fits_task small) (fits_tariff tariff && fits_sheet old) a.0 in
     let c = and_parts (fits_tariff tariff) (fits_sheet old) b.1 in
     (made_task small b.0, (λ task is. (made_prices tariff c.0 task, (λ prices are. (made_sheet old c.1, (λ before so. edit_holds small task is tariff old change answer new a.1 before so prices are))))))
-row_holds (next page done ready) t =
+row_holds (takes page done ready) t =
     let a = and_parts (fits_sheet page) _ t in
-    (made_sheet page a.0, (λ sheet so p. subst (λ (q : Page). Decides (listed ready p) (Open q.order done p)) (sym (same_page page sheet so)) (next_holds (outline_of page) (small_rules page a.0) done ready a.1 p)))
+    let next = next_holds (outline_of page) (small_rules page a.0) done ready a.1 in (
+      made_sheet page a.0,
+      (λ sheet so. subst (λ (q : Page). ((p : ℕ) → Decides (listed ready p) (Open q.order done p)) × TakesJust (length page.actions) q.order done None ready)
+          (sym (same_page page sheet so)) (next, takes_open (outline_of page) done ready next)),
+    )
+row_holds (taken page done p) t =
+    (made_sheet page t, (λ sheet so. subst (λ (q : Page). TakesJust (length page.actions) q.order done (Some p) []) (sym (same_page page sheet so)) (takes_none (outline_of page) done p)))
 row_holds (runs page orders) t =
     let a = and_parts (different orders) _ t in
     let b = and_parts (fits_sheet page) _ a.1 in

@@ -1,6 +1,6 @@
 -- What the check says, as a function that computes: it is what the rules allow.
 use Rattle.std.proofs.Common.{◌≡◌, ℕ, suc, ◌<◌, Bool, true, false, cond, ◌&&◌, eqb, ltb, leb, List, [], ◌∷◌, length, get_or, Some, None, Option, sym, refl, ap, ◌∙◌, inl, inr, arith}
-use Rattle.std.proofs.lemmas.Bool.{and_parts, eqb-true, false≢true, le-leb, lt-leb, ltb-true}
+use Rattle.std.proofs.lemmas.Bool.{and_parts, eqb-true, le-leb, lt-leb, ltb-true}
 use Rattle.orders.proofs.Below.{below_is, refuted}
 use Rattle.orders.proofs.Wanting.{test_decides_wanting}
 use Rattle.orders.specs.Check.{missing, some_below}
@@ -8,11 +8,10 @@ use Rattle.orders.specs.Facts.{Effects, Good, Wanting, needed}
 use Rattle.orders.specs.Sheets.{Outline, Rules}
 use Rattle.sets.proofs.Members.{member_lt}
 use Rattle.sets.specs.Contents.{contents}
-use Rattle.sets.specs.declared.bits.BitSet.{BitSet}
+use Rattle.sheet.proofs.Effects.{has_small}
 use Rattle.sheet.specs.Faults.{number_of, values_of}
-use Rattle.sheet.specs.Verdicts.{AllKnown, FirstUnknown, LowestWanting, Passes, Refused, effects_of, has_fact}
+use Rattle.sheet.specs.Verdicts.{AllKnown, FirstUnknown, LowestWanting, Passes, Refused, effects_of}
 use Rattle.sheet.specs.declared.fault.SheetFault.{SheetFault}
-use Rattle.task.specs.declared.actions.Action.{Action}
 use Rattle.task.specs.declared.tasks.Task.{Task}
 use Rattle.smallsheets.specs.Rows.{Answer}
 use Rattle.smallsheets.specs.Rows.Answer.{refused}
@@ -45,10 +44,6 @@ pub unknown_refused : (task : Task) (numbers : List ℕ) (later : Answer) (numbe
 unknown_refused task numbers later number u =
     ap (by_number numbers later) (lowest_some _ (length numbers) u.at u.within (le-leb _ _ (omega (arith, u.there, u.lacking))) (λ j l. lt-leb _ _ (u.first j l)))
     ∙ ap (λ n. refused 2 (n ∷ [])) u.there
-
-has_small : (part : Action → BitSet 1) (o : Option Action) (f : ℕ) → has_fact part o f ≡ true → f < 64
-has_small part None f h = absurd (false≢true h)
-has_small part (Some a) f h = omega (arith, member_lt (part a) f h)
 
 module _ (task : Task) (numbers : List ℕ) (s : Outline) (rules : Rules s) where
   abbrev does : Effects

@@ -6,4 +6,5 @@ pub mod Judging
 pub mod Lowest
 pub mod MakingSheets
 pub mod MakingTasks
+pub mod Taking
 pub mod Views

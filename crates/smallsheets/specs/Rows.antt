@@ -1,5 +1,7 @@
 -- A row of the table, and what it says.
-use Rattle.std.specs.Prelude.{◌≡◌, ℕ, Bool, true, false, not, ◌&&◌, ◌||◌, List, [], ◌∷◌, Ok, Err, Decides, Result, ◌==◌}
+use Rattle.std.specs.Prelude.{◌≡◌, ℕ, Bool, true, false, cond, not, ◌&&◌, ◌||◌, List, [], ◌∷◌, length, Ok, Err, Decides, Result, Some, None, Option, ◌==◌, nat_lt}
+use Rattle.driving.specs.Calls.{Moment, RunFault, Takes, Work}
+use Rattle.driving.specs.Calls.RunFault.{not_open, position}
 use Rattle.edits.specs.Applying.{Applies}
 use Rattle.shaping.specs.Faults.{number_of, values_of}
 use Rattle.shaping.specs.declared.fault.EditFault.{EditFault}
@@ -7,6 +9,7 @@ use Rattle.orders.specs.Changes.{Change}
 use Rattle.orders.specs.Driving.{Open}
 use Rattle.orders.specs.Lists.{listed}
 use Rattle.orders.specs.Running.{RunningOrder}
+use Rattle.orders.specs.Sheets.{Outline}
 use Rattle.sheet.specs.Faults as sheets
 use Rattle.sheet.specs.Sheets.{outline}
 use Rattle.sheet.specs.Verdicts.{Checks, Lays}
@@ -54,14 +57,49 @@ pub data Row : Type 0 where
   check : SmallTask → SmallSheet → Answer → Row
   -- a task, a tariff, a sheet and an edit: the answer, and the sheet afterwards
   edit : SmallTask → SmallTariff → SmallSheet → Change → Answer → SmallSheet → Row
-  -- a sheet and the positions that are done: which are open
-  next : SmallSheet → List ℕ → List ℕ → Row
+  -- a sheet and the positions that are done, where nothing is taken: which are open, and can be taken
+  takes : SmallSheet → List ℕ → List ℕ → Row
+  -- a sheet, the positions that are done and the one that is taken: none can be taken
+  taken : SmallSheet → List ℕ → ℕ → Row
   -- a sheet: its running orders
   runs : SmallSheet → List (List ℕ) → Row
 
 -- there is one that is so, and each that is so has P
 abbrev pub Each : {A : Type 0} → (A → Type 0) → (A → Type 0) → Type 0
 Each {A} Is P = ((x : A) × Is x) × ((x : A) → Is x → P x)
+
+-- a call of `take`: its answer, the slip that it gives, and the moment after
+pub record Call : Type 0 where
+  pub answer : Result (Unit {0}) RunFault
+  pub slip : Option ℕ
+  pub after : Moment
+
+-- p is taken
+abbrev pub takes_it : Moment → ℕ → Call
+takes_it m p = record { answer = Ok tt; slip = Some p; after = record { taken = Some p; done = m.done; rig = m.rig } }
+
+-- the call is refused, and nothing changes
+abbrev pub leaves_it : Moment → RunFault → Call
+leaves_it m fault = record { answer = Err fault; slip = None; after = m }
+
+-- what a call for p does where, of n positions, just those of the list can be taken
+abbrev pub call_for : ℕ → List ℕ → Moment → ℕ → Call
+call_for n ready m p = cond (listed ready p) (takes_it m p) (leaves_it m (cond (nat_lt p n) not_open position))
+
+-- what `take` promises allows this call
+abbrev pub MayTake : Work → Moment → ℕ → Call → Type 0
+MayTake w m p call = Takes w m p call.answer call.slip call.after
+
+-- a moment at which just the positions of the list are done, and that one is taken, if any
+pub record IsMoment (done : List ℕ) (held : Option ℕ) (m : Moment) : Type 0 where
+  pub same_done : (p : ℕ) → m.done p ≡ listed done p
+  pub same_taken : m.taken ≡ held
+
+-- at each such moment, over that outline of n positions and under any task, just the positions of `ready` can be taken: there
+-- is a call that what `take` promises allows, and it is the only one
+abbrev pub TakesJust : ℕ → Outline → List ℕ → Option ℕ → List ℕ → Type 0
+TakesJust n order done held ready = Each (λ (w : Work). w.order ≡ order) (λ w. Each (IsMoment done held) (λ m.
+    (p : ℕ) → Each (MayTake w m p) (λ call. call ≡ call_for n ready m p)))
 
 -- what a row says: whatever answer the rules allow, it is this one
 abbrev pub Holds : Row → Type 0
@@ -71,5 +109,7 @@ Holds (check small page answer) = Each (IsTask small) (λ task. Each (IsSheet pa
     (r : Result (Unit {0}) SheetFault) → Checks task sheet r → judged r ≡ answer))
 Holds (edit small tariff old change answer new) = Each (IsTask small) (λ task. Each (ArePrices tariff task) (λ prices. Each (IsSheet old) (λ before.
     (r : Result ℕ EditFault) (after : Sheet) → Applies prices task before change r after → (said r ≡ answer) × IsSheet new after)))
-Holds (next page done ready) = Each (IsSheet page) (λ sheet. (p : ℕ) → Decides (listed ready p) (Open (outline sheet) done p))
+Holds (takes page done ready) = Each (IsSheet page) (λ sheet.
+    ((p : ℕ) → Decides (listed ready p) (Open (outline sheet) done p)) × TakesJust (length page.actions) (outline sheet) done None ready)
+Holds (taken page done p) = Each (IsSheet page) (λ sheet. TakesJust (length page.actions) (outline sheet) done (Some p) [])
 Holds (runs page orders) = (different orders ≡ true) × Each (IsSheet page) (λ sheet. (order : List ℕ) → Decides (among orders order) (RunningOrder (outline sheet) order))

@@ -5,7 +5,7 @@ use Rattle.orders.specs.Changes.{Change}
 use Rattle.orders.specs.Changes.Change.{swap, group, ungroup, loosen, replace}
 use Rattle.smallsheets.specs.Rows.{Holds, Row}
 use Rattle.smallsheets.specs.Rows.Answer.{accepted, refused}
-use Rattle.smallsheets.specs.Rows.Row.{check, edit, lay, next, not_laid, runs}
+use Rattle.smallsheets.specs.Rows.Row.{check, edit, lay, not_laid, runs, taken, takes}
 use Rattle.smallsheets.specs.Small.{SmallAction, SmallSheet, SmallTask}
 use Rattle.smallsheets.specs.Small.SmallTariff.{book, touch}
 
@@ -120,8 +120,10 @@ table =
     ∷ check week paired_discs (accepted 0)
     ∷ check week loose_discs (refused 3 (0 ∷ 0 ∷ []))
     ∷ runs paired_discs ((0 ∷ 1 ∷ 2 ∷ 3 ∷ 4 ∷ 5 ∷ []) ∷ (3 ∷ 4 ∷ 5 ∷ 0 ∷ 1 ∷ 2 ∷ []) ∷ [])
-    ∷ next paired_discs [] (0 ∷ 3 ∷ [])
-    ∷ next paired_discs (0 ∷ []) (1 ∷ [])
+    -- either disc can go in; nothing can be taken while a step is; and once a disc is in, only its own capture
+    ∷ takes paired_discs [] (0 ∷ 3 ∷ [])
+    ∷ taken paired_discs [] 0
+    ∷ takes paired_discs (0 ∷ []) (1 ∷ [])
     -- the paired discs under every edit
     ∷ refuses week paired_discs (group 2 2) 1 []
     ∷ refuses week paired_discs (group 0 2) 5 []
