@@ -9,6 +9,7 @@ use Rattle.lines.specs.Text.{line_text}
 use Rattle.lines.specs.Writing.{Wrote}
 use Rattle.lines.specs.declared.answer.ShortBuffer.{ShortBuffer}
 use Rattle.orders.specs.Changes.{Change}
+use Rattle.orders.specs.Changes.Change.{group, loosen, replace, swap, ungroup}
 use Rattle.records.specs.Lines.{Line, Proper, ProperChange}
 use Rattle.records.specs.Lines.Line.{fact, act, start, goal, step, edit}
 use Rattle.records.specs.Reading.{unread}
@@ -32,6 +33,14 @@ with_change (edit change) changes = change ∷ changes
 abbrev pub changes_in : List Line → List Change
 changes_in [] = []
 changes_in (l ∷ lines) = with_change l (changes_in lines)
+
+-- the list that an edit puts in, if it is a replacement
+abbrev pub listed_in : Change → List ℕ
+listed_in (swap k) = []
+listed_in (group a b) = []
+listed_in (ungroup a b) = []
+listed_in (loosen i j) = []
+listed_in (replace a b list) = list
 
 -- the first edit among the lines is read, and the reader stands behind it
 pub record NextEdit (lines : List Line) (e : Edit) (reader : Reader) : Type 0 where

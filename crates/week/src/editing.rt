@@ -10,12 +10,11 @@ ghost use Rattle.week.specs.Editing.{Replies, answer_text, book_prices, changes_
 ghost use Rattle.std.specs.List.{AllByRecursion};
 
 use crate::laying::LaidWeek;
-use crate::reading::{next_edit, numbers_of};
-use edits::{Edit, apply};
+use crate::reading::{list_of, meant, next_edit};
+use edits::apply;
 use lines::{Reply, ShortBuffer, reply};
 use records::reader::Reader;
 use records::record::Edit as Written;
-use sets::list::ArrayVec;
 use shaping::EditFault;
 use sheet::SheetFault;
 use task::BookTariff;
@@ -43,20 +42,10 @@ impl LaidWeek {
         ensures says { (change : Change) → ProperChange change → ChangeFits change → EditSays edit.entry change →
             Applies (book_prices self.old.task) self.old.task self.old.sheet change result self.new.sheet }
     {
-        // Only a replacement has a list.
-        let mut list = ArrayVec::new(0);
-        let meant = match edit {
-            Written::Swap(k) => Edit::Swap(k as usize),
-            Written::Group(a, b) => Edit::Group(a as usize, b as usize),
-            Written::Ungroup(a, b) => Edit::Ungroup(a as usize, b as usize),
-            Written::Loosen(i, j) => Edit::Loosen(i as usize, j as usize),
-            Written::Replace(a, b, text) => {
-                list = numbers_of(text);
-                Edit::Replace(a as usize, b as usize, list.as_slice())
-            }
-        };
+        let list = list_of(&edit);
         let task = &self.task;
-        apply(&mut self.sheet, task, &BookTariff { task }, meant)
+        let tariff = BookTariff { task };
+        apply(&mut self.sheet, task, &tariff, meant(edit, list.as_slice()))
     }
 
     // Carries out the edits that are still to be read, one after another, and writes a line for each to the front of `out`.

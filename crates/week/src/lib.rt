@@ -9,6 +9,7 @@ mod reading;
 
 pub use answering::{Outcome, answer};
 pub use laying::{LaidWeek, lay_week};
+pub use reading::{list_of, meant, next_edit};
 
 #[cfg(test)]
 mod tests;

@@ -1,22 +1,27 @@
 // The edits of a book, as its lines have them.
 ghost use Rattle.std.specs.Prelude.{◌≡◌, ℕ, ◌<◌, ◌≤◌, true, List, [], length, is_some, MatchOption};
-ghost use Rattle.book.specs.Weeks.{bytes};
-ghost use Rattle.records.specs.Lines.{Line, Proper};
+ghost use Rattle.book.specs.Weeks.{ChangeFits, bytes};
+ghost use Rattle.edits.specs.Applying.{change_of};
+ghost use Rattle.orders.specs.Changes.{Change};
+ghost use Rattle.records.specs.Lines.{Line, Proper, ProperChange};
 ghost use Rattle.records.specs.Reading.{unread};
-ghost use Rattle.week.specs.Editing.{NextEdit, changes_in};
+ghost use Rattle.records.specs.Records.{EditSays};
+ghost use Rattle.week.specs.Editing.{NextEdit, changes_in, listed_in};
 ghost use Rattle.sets.specs.Contents.{contents};
 ghost use Rattle.std.specs.List.{AllByRecursion};
 ghost use Rattle.text.specs.Fields.{IsList};
 
+use edits::Edit;
 use records::reader::Reader;
-use records::record::{Edit, Record};
+use records::record::{Edit as Written, Record};
 use sets::list::ArrayVec;
 use task::Plan;
 use text::Entries;
 
-// The next edit among the lines that are still to be read.
-pub fn next_edit<'a>(reader: &mut Reader<'a>) -> Option<Edit<'a>>
-    ensures says { (lines : List Line) → AllByRecursion Proper lines → unread reader.old ≡ bytes lines → MatchOption result
+/// The next edit among the lines that are still to be read; nothing where none is left, or where a line is none.
+pub fn next_edit<'a>(reader: &mut Reader<'a>) -> Option<Written<'a>>
+    ensures says { (lines : List Line) → AllByRecursion Proper lines → unread reader.old ≡ bytes lines →
+        MatchOption result
         (changes_in lines ≡ [])
         (λ edit. NextEdit lines edit reader.new) }
     ensures falls { is_some result ≡ true → length (unread reader.new) < length (unread reader.old) }
@@ -29,8 +34,32 @@ pub fn next_edit<'a>(reader: &mut Reader<'a>) -> Option<Edit<'a>>
     None
 }
 
+/// The list of action numbers that the edit writes out: that of a replacement; any other has none.
+pub fn list_of(edit: &Written<'_>) -> Plan
+    ensures { (change : Change) → ProperChange change → ChangeFits change → EditSays edit.now change →
+        contents result ≡ listed_in change }
+{
+    match edit {
+        Written::Replace(_, _, text) => numbers_of(text),
+        _ => ArrayVec::new(0),
+    }
+}
+
+/// The edit of a sheet that the book's edit is, with its list as numbers.
+pub fn meant<'l>(edit: Written<'_>, list: &'l [u32]) -> Edit<'l>
+    ensures { (change : Change) → EditSays edit.entry change → list.now ≡ listed_in change → change_of result ≡ change }
+{
+    match edit {
+        Written::Swap(k) => Edit::Swap(k as usize),
+        Written::Group(a, b) => Edit::Group(a as usize, b as usize),
+        Written::Ungroup(a, b) => Edit::Ungroup(a as usize, b as usize),
+        Written::Loosen(i, j) => Edit::Loosen(i as usize, j as usize),
+        Written::Replace(a, b, _) => Edit::Replace(a as usize, b as usize, list),
+    }
+}
+
 // The action numbers of a list's text.
-pub fn numbers_of(text: &[u8]) -> Plan
+fn numbers_of(text: &[u8]) -> Plan
     ensures { (list : List ℕ) → IsList text.now list → length list ≤ 128 → contents result ≡ list }
 {
     let mut numbers = ArrayVec::new(0);
