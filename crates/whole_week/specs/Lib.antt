@@ -1,0 +1,2 @@
+pub mod DoesWeek
+pub mod Week
