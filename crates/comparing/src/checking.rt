@@ -15,7 +15,7 @@ use std::fmt;
 const NUMBERS: [u32; 5] = [0, 1, 2, 3, 4];
 
 // A laid plan, with blocks made and ties loosened at random under the task without needs; step i has action i.
-fn shaped(random: &mut Random, task: &PlainTask, steps: usize) -> Result<Sheet, Differs> {
+pub fn shaped(random: &mut Random, task: &PlainTask, steps: usize) -> Result<Sheet, Differs> {
     let task = task.without_needs().task();
     let plan = NUMBERS.get(..steps).ok_or(Differs)?;
     let mut sheet = lay(&task, plan).map_err(|_| Differs)?;

@@ -3,7 +3,7 @@ use std::fmt;
 
 // Something about the sheet at hand differs.
 #[derive(Clone, Copy, Debug, PartialEq, Eq)]
-pub(crate) struct Differs;
+pub struct Differs;
 
 // The first sheet that differs, by its place among all: the first of them has number 0.
 #[derive(Clone, Copy, Debug, PartialEq, Eq)]

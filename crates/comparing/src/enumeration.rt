@@ -8,7 +8,7 @@ const MOST_ORDERS: usize = 720;
 
 // The positions, first to last.
 #[derive(Clone, Copy)]
-pub(crate) struct Order {
+pub struct Order {
     positions: ArrayVec<usize, MOST_STEPS>,
 }
 
@@ -39,7 +39,7 @@ impl Order {
             .unwrap_or(n)
     }
 
-    pub(crate) fn as_slice(&self) -> &[usize] {
+    pub fn as_slice(&self) -> &[usize] {
         self.positions.as_slice()
     }
 
@@ -77,23 +77,29 @@ fn factorial(n: usize) -> usize {
     (1..=n).fold(1, |product: usize, k| product.saturating_mul(k))
 }
 
+// Every order of n positions.
+pub fn every_order(n: usize) -> ArrayVec<Order, MOST_ORDERS> {
+    let every = (0..factorial(n)).map(|index| Order::at(index, n));
+    ArrayVec::collect(Order::empty(), every)
+}
+
 // A sheet with its running orders.
 #[derive(Drop)]
-pub(crate) struct Orders<'a> {
+pub struct Orders<'a> {
     pub(crate) model: &'a Model,
-    pub(crate) all: ArrayVec<Order, MOST_ORDERS>,
+    pub all: ArrayVec<Order, MOST_ORDERS>,
 }
 
 impl<'a> Orders<'a> {
-    pub(crate) fn of(model: &'a Model) -> Self {
-        let n = model.steps();
-        let every = (0..factorial(n)).map(|index| Order::at(index, n));
+    pub fn of(model: &'a Model) -> Self {
+        let every = every_order(model.steps());
+        let permitted = every
+            .as_slice()
+            .iter()
+            .filter(|order| order.is_permitted(model));
         Orders {
             model,
-            all: ArrayVec::collect(
-                Order::empty(),
-                every.filter(|order| order.is_permitted(model)),
-            ),
+            all: ArrayVec::collect(Order::empty(), permitted.copied()),
         }
     }
 }

@@ -9,14 +9,14 @@ const SETS: usize = 8;
 
 // Bit f of the number is fact f.
 #[derive(Clone, Copy, Debug, PartialEq, Eq)]
-pub(crate) struct PlainFacts(usize);
+pub struct PlainFacts(usize);
 
 impl PlainFacts {
-    pub(crate) const NONE: Self = PlainFacts(0);
+    pub const NONE: Self = PlainFacts(0);
 
     const ALL: Self = PlainFacts(SETS - 1);
 
-    pub(crate) fn any(random: &mut Random) -> Self {
+    pub fn any(random: &mut Random) -> Self {
         PlainFacts(random.below(SETS))
     }
 
@@ -40,7 +40,7 @@ impl PlainFacts {
         PlainFacts(self.0 & other.0)
     }
 
-    pub(crate) fn without(self, other: Self) -> Self {
+    pub fn without(self, other: Self) -> Self {
         self.shared(other.others())
     }
 
@@ -49,7 +49,7 @@ impl PlainFacts {
         PlainFacts(self.0 ^ Self::ALL.0)
     }
 
-    pub(crate) fn lowest(self) -> Option<usize> {
+    pub fn lowest(self) -> Option<usize> {
         (0..FACTS).find(|fact| self.has(*fact))
     }
 

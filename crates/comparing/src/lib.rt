@@ -21,9 +21,15 @@ mod tally;
 mod tasks;
 mod verdicts;
 
-pub use checking::{Findings, compare_checks};
-pub use differing::Difference;
+pub use checking::{Findings, compare_checks, shaped};
+pub use differing::{Difference, Differs};
 pub use editing::compare_edits;
 pub use ends::{Count, End, Ends, Kind};
+pub use enumeration::{Order, Orders, every_order};
+pub use facts::PlainFacts;
+pub use lists::{MOST_STEPS, Pair, Run};
+pub use model::Model;
 pub use random::Random;
-pub use shapes::Shapes;
+pub use shapes::{Shape, Shapes};
+pub use tally::{Tally, tallied};
+pub use tasks::PlainTask;

@@ -2,7 +2,7 @@
 use sets::list::ArrayVec;
 
 // All orders of more steps would take too long.
-pub(crate) const MOST_STEPS: usize = 6;
+pub const MOST_STEPS: usize = 6;
 
 // The action numbers of a small sheet's steps, or of a list that fits it.
 pub(crate) type Actions = ArrayVec<u32, MOST_STEPS>;
@@ -11,7 +11,7 @@ pub(crate) type Actions = ArrayVec<u32, MOST_STEPS>;
 const MOST_PAIRS: usize = (MOST_STEPS + 1) * (MOST_STEPS + 1);
 
 // Two positions, the one ahead of the other where they are tied.
-pub(crate) type Pair = (usize, usize);
+pub type Pair = (usize, usize);
 
 pub(crate) type Pairs = ArrayVec<Pair, MOST_PAIRS>;
 
@@ -19,9 +19,9 @@ pub(crate) type Runs = ArrayVec<Run, MOST_PAIRS>;
 
 // The positions `first` to `last`.
 #[derive(Clone, Copy, Debug, PartialEq, Eq)]
-pub(crate) struct Run {
-    pub(crate) first: usize,
-    pub(crate) last: usize,
+pub struct Run {
+    pub first: usize,
+    pub last: usize,
 }
 
 impl Run {
@@ -29,7 +29,7 @@ impl Run {
         Run { first: x, last: x }
     }
 
-    pub(crate) fn has(&self, x: usize) -> bool {
+    pub fn has(&self, x: usize) -> bool {
         (self.first..=self.last).contains(&x)
     }
 

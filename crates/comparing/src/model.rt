@@ -5,7 +5,7 @@ use sheet::{Relation, Sheet};
 
 // The action numbers of the steps, the ties (i, j) and the blocks.
 #[derive(Clone, Copy)]
-pub(crate) struct Model {
+pub struct Model {
     pub(crate) actions: Actions,
     pub(crate) ties: Pairs,
     pub(crate) blocks: Runs,
@@ -29,7 +29,7 @@ impl Model {
     }
 
     // What the sheet says of itself, asked question by question: a `From` would name that no better.
-    pub(crate) fn read(sheet: &Sheet) -> Self {
+    pub fn read(sheet: &Sheet) -> Self {
         let n = sheet.steps();
         let blocks = pairs_where(n, |(a, b)| sheet.is_block(a, b));
         Model {
@@ -70,15 +70,15 @@ impl Model {
         })
     }
 
-    pub(crate) fn actions(&self) -> &[u32] {
+    pub fn actions(&self) -> &[u32] {
         self.actions.as_slice()
     }
 
-    pub(crate) fn ties(&self) -> &[Pair] {
+    pub fn ties(&self) -> &[Pair] {
         self.ties.as_slice()
     }
 
-    pub(crate) fn blocks(&self) -> &[Run] {
+    pub fn blocks(&self) -> &[Run] {
         self.blocks.as_slice()
     }
 
@@ -90,7 +90,7 @@ impl Model {
         ArrayVec::collect(Run::of(0), passing)
     }
 
-    pub(crate) fn steps(&self) -> usize {
+    pub fn steps(&self) -> usize {
         self.actions.len()
     }
 

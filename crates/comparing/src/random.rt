@@ -20,7 +20,7 @@ impl Random {
         ((x >> 11) as usize).checked_rem(bound).unwrap_or(0)
     }
 
-    pub(crate) fn once_in(&mut self, turns: usize) -> bool {
+    pub fn once_in(&mut self, turns: usize) -> bool {
         self.below(turns) == 0
     }
 }

@@ -15,10 +15,10 @@ pub struct Shapes {
 
 // What one sheet is like.
 #[derive(Clone, Copy)]
-pub(crate) struct Shape {
-    pub(crate) is_loose: bool,
-    pub(crate) is_grouped: bool,
-    pub(crate) is_wanting: bool,
+pub struct Shape {
+    pub is_loose: bool,
+    pub is_grouped: bool,
+    pub is_wanting: bool,
 }
 
 impl Tally for Shapes {

@@ -5,7 +5,7 @@ use crate::differing::{Difference, Differs};
 use crate::random::Random;
 
 // Counts sheets by what is found of each.
-pub(crate) trait Tally: Drop {
+pub trait Tally: Drop {
     // What is found of one sheet.
     type Found;
 
@@ -22,8 +22,8 @@ pub(crate) trait Tally: Drop {
 }
 
 // Counts so many sheets; `compared` makes and compares one. Either none of them differs, or the first that does is named.
-// Both public comparisons promise these clauses again, each of its own counts.
-pub(crate) fn tallied<T: Tally, F: Fn(&mut Random) -> Result<T::Found, Differs>>(
+// Each public comparison promises these clauses again, of its own counts.
+pub fn tallied<T: Tally, F: Fn(&mut Random) -> Result<T::Found, Differs>>(
     random: &mut Random,
     sheets: u32,
     compared: F,

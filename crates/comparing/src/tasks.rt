@@ -24,7 +24,7 @@ const IDLE: Effect = Effect {
 
 // The number of an action is its place among the effects.
 #[derive(Clone, Copy)]
-pub(crate) struct PlainTask {
+pub struct PlainTask {
     effects: ArrayVec<Effect, 8>,
     start: PlainFacts,
     goal: PlainFacts,
@@ -70,11 +70,7 @@ impl Effect {
 
 impl PlainTask {
     // With so many actions; `price` draws the price of each.
-    pub(crate) fn any<P: Fn(&mut Random) -> u32>(
-        random: &mut Random,
-        actions: usize,
-        price: &P,
-    ) -> Self
+    pub fn any<P: Fn(&mut Random) -> u32>(random: &mut Random, actions: usize, price: &P) -> Self
         requires { P.IsAlwaysCallable price.now }
     {
         let mut effects = ArrayVec::new(IDLE);
@@ -91,7 +87,7 @@ impl PlainTask {
     }
 
     // The same with nothing that is needed, so that every sheet is good.
-    pub(crate) fn without_needs(&self) -> Self {
+    pub fn without_needs(&self) -> Self {
         let needless = self.effects.as_slice().iter().map(|effect| Effect {
             needs: PlainFacts::NONE,
             ..*effect
@@ -104,12 +100,16 @@ impl PlainTask {
     }
 
     // The same with the first few actions only.
-    pub(crate) fn shortened(&self, actions: usize) -> Self {
+    pub fn shortened(&self, actions: usize) -> Self {
         let first = self.effects.as_slice().iter().copied().take(actions);
         PlainTask {
             effects: ArrayVec::collect(IDLE, first),
             ..*self
         }
+    }
+
+    pub fn start(&self) -> PlainFacts {
+        self.start
     }
 
     pub(crate) fn actions(&self) -> usize {
@@ -121,7 +121,7 @@ impl PlainTask {
     }
 
     // Refuses the first of the actions that it lacks.
-    pub(crate) fn knows(&self, actions: &[u32]) -> Result<(), SheetFault> {
+    pub fn knows(&self, actions: &[u32]) -> Result<(), SheetFault> {
         actions
             .iter()
             .find(|action| **action as usize >= self.actions())
@@ -129,8 +129,13 @@ impl PlainTask {
     }
 
     // What the action needs; the goal where there is no action.
-    pub(crate) fn needs(&self, action: Option<u32>) -> PlainFacts {
+    pub fn needs(&self, action: Option<u32>) -> PlainFacts {
         action.map_or(self.goal, |number| self.effect(number).needs)
+    }
+
+    // The facts that stand once the action is performed.
+    pub fn performed(&self, action: u32, standing: PlainFacts) -> PlainFacts {
+        self.effect(action).after(standing)
     }
 
     // The facts that stand once the actions are performed, one after the other.
@@ -140,11 +145,11 @@ impl PlainTask {
     {
         actions.fold(
             self.start,
-            |standing, action| self.effect(action).after(standing),
+            |standing, action| self.performed(action, standing),
         )
     }
 
-    pub(crate) fn task(&self) -> Task {
+    pub fn task(&self) -> Task {
         let mut task = Task::new();
         for _ in 0..FACTS {
             let _ = task.add_fact();
