@@ -1,6 +1,5 @@
 -- The week's edits, and the listing behind their lines.
-use Rattle.std.proofs.Common.{◌≡◌, ℕ, ◌+◌, ◌<◌, ◌≤◌, true, ◌⊎◌, List, [], ◌∷◌, ◌++◌, map, length, drop, Ok, Err, sum_by, Result, sym, refl, ap, ◌∙◌, subst, inl, inr, arith, length-append, length-drop}
-use Rattle.std.proofs.lemmas.List.{flat_map_more}
+use Rattle.std.proofs.Common.{◌≡◌, ℕ, ◌+◌, ◌<◌, ◌≤◌, true, List, [], ◌∷◌, ◌++◌, map, length, drop, Ok, Err, sum_by, Result, sym, refl, ap, ◌∙◌, subst, inl, inr, arith, length-append, length-drop}
 use Rattle.std.specs.List.{AllByRecursion}
 use Rattle.book.specs.Weeks.{ChangeFits, Fits, Week, said}
 use Rattle.edits.specs.Applying.{saved}
@@ -14,8 +13,8 @@ use Rattle.records.specs.Lines.Line.{fact, act, step, edit}
 use Rattle.week.proofs.Laid.{good_as_laid}
 use Rattle.week.proofs.Prices.{week_listing, week_prices}
 use Rattle.week.proofs.Working.{carried_even, carried_good}
-use Rattle.week.specs.Editing.{CarriedOut, Outgrown, Replied, answer_text, book_prices, changes_in, replies, with_change}
-use Rattle.week.specs.Output.{Begun, Edited, LaidAs, Listed, Writes, task_text}
+use Rattle.week.specs.Editing.{CarriedOut, Outgrown, Replied, book_prices, changes_in, replies, with_change}
+use Rattle.week.specs.Output.{Edited, LaidAs, Listed, WeekCut, Writes, sheet_text, task_text}
 use Rattle.week.specs.declared.answering.Outcome.TheVariants.{Listed as ListedAs}
 use Rattle.sheet.specs.Sheets.{actions}
 use Rattle.sheet.specs.declared.sheet.Sheet.{Sheet}
@@ -54,14 +53,18 @@ module _ (w : Week) (task : Task) (laid : Sheet) (is : LaidAs w task laid) where
   }
 
   -- the lines are longer than the buffer
-  pub outgrown : (room : List ℕ) (e : ShortBuffer) (after : Sheet) (out : List ℕ) → Outgrown task laid (changes_in (said w)) room after out → Writes (λ accepted text. (accepted ≡ true) × Listed text w) (λ text. Listed text w ⊎ Begun text w) room (Err e) out
-  outgrown room e after out o = (
-    replies o.answers,
-    answer_text o.last,
-    inr (o.front, o.more, sym (week_changes w) ∙ o.split, (o.answers ++ o.last ∷ [], (after, edited o.front _ after o.carried, flat_map_more answer_text [] o.answers o.last))),
-    o.short,
-    o.wrote,
-  )
+  pub outgrown : (room : List ℕ) (e : ShortBuffer) (after : Sheet) (out : List ℕ) → Outgrown task laid (changes_in (said w)) room after out → Writes (λ accepted text. (accepted ≡ true) × Listed text w) (WeekCut w) room (Err e) out
+  outgrown room e after out o = inl (record {
+    front = o.front;
+    more = o.more;
+    split = sym (week_changes w) ∙ o.split;
+    answers = o.answers;
+    answer = o.last;
+    last = after;
+    edited = edited o.front _ after o.carried;
+    short = o.short;
+    wrote = o.wrote;
+  })
 
   module _ (room : List ℕ) (at : ℕ) (last : Sheet) (out : List ℕ) (r : Replied task laid (changes_in (said w)) room at last out) where
     abbrev listing : List ℕ
@@ -70,25 +73,29 @@ module _ (w : Week) (task : Task) (laid : Sheet) (is : LaidAs w task laid) where
     same_length : length out ≡ length room
     same_length = ap length r.wrote ∙ length-append (replies r.answers) _ ∙ omega (arith, r.fits, length-drop (length (replies r.answers)) room)
 
+    all_edited : Edited w w.changes r.answers last
+    all_edited = edited w.changes r.answers last (subst (λ (l : List Change). CarriedOut task laid l r.answers last) (week_changes w) r.carried)
+
+    same_text : replies r.answers ++ listing ≡ replies r.answers ++ sheet_text w last
+    same_text = ap (λ (l : List ℕ). replies r.answers ++ l) (week_listing w task is.of_week (actions last))
+
     listed : Listed (replies r.answers ++ listing) w
-    listed =
-        let carried = subst (λ (l : List Change). CarriedOut task laid l r.answers last) (week_changes w) r.carried in
-        (r.answers, (last, edited w.changes r.answers last carried, ap (λ (l : List ℕ). replies r.answers ++ l) (week_listing w task is.of_week (actions last))))
+    listed = (r.answers, (last, all_edited, same_text))
 
     put : Put (replies r.answers) room 0 at out
     put = record { place = r.bytes_written ∙ omega arith; bytes = r.wrote ∙ ap (λ n. replies r.answers ++ drop n room) (sym r.bytes_written) }
 
-    pub listed_behind : (next : ℕ) (after : List ℕ) → Put listing out at next after → next ≤ length out → Writes (λ accepted text. (accepted ≡ true) × Listed text w) (λ text. Listed text w ⊎ Begun text w) room (Ok (ListedAs next)) after
+    pub listed_behind : (next : ℕ) (after : List ℕ) → Put listing out at next after → next ≤ length out → Writes (λ accepted text. (accepted ≡ true) × Listed text w) (WeekCut w) room (Ok (ListedAs next)) after
     listed_behind next after behind fits =
         let all = put_more (omega arith) put behind in
         let len : next ≡ length (replies r.answers ++ listing) = all.place ∙ omega arith in
         (replies r.answers ++ listing, (refl, listed), omega (arith, same_length), len, all.bytes ∙ ap (λ n. (replies r.answers ++ listing) ++ drop n room) len)
 
-    pub listing_outgrown : (e : ShortBuffer) (after : List ℕ) → length out < at + length listing → after ≡ out → Writes (λ accepted text. (accepted ≡ true) × Listed text w) (λ text. Listed text w ⊎ Begun text w) room (Err e) after
-    listing_outgrown e after short kept = (
-      replies r.answers,
-      listing,
-      inl listed,
-      omega (arith, same_length, r.bytes_written, length-append (replies r.answers) listing),
-      kept ∙ r.wrote,
-    )
+    pub listing_outgrown : (e : ShortBuffer) (after : List ℕ) → length out < at + length listing → after ≡ out → Writes (λ accepted text. (accepted ≡ true) × Listed text w) (WeekCut w) room (Err e) after
+    listing_outgrown e after short kept = inr (record {
+      answers = r.answers;
+      last = last;
+      edited = all_edited;
+      short = omega (arith, same_length, r.bytes_written, length-append (replies r.answers) listing, ap length same_text);
+      wrote = kept ∙ r.wrote;
+    })

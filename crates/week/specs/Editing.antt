@@ -16,6 +16,7 @@ use Rattle.records.specs.Reading.{unread}
 use Rattle.records.specs.Records.{EditSays}
 use Rattle.records.specs.declared.reader.Reader.{Reader}
 use Rattle.records.specs.declared.record.Edit.{Edit}
+use Rattle.records.specs.declared.record.Edit.TheVariants.{Group, Loosen, Replace, Swap, Ungroup}
 use Rattle.sheet.specs.declared.sheet.Sheet.{Sheet}
 use Rattle.task.specs.Prices.{priced}
 use Rattle.task.specs.declared.tasks.Task.{Task}
@@ -41,6 +42,14 @@ listed_in (group a b) = []
 listed_in (ungroup a b) = []
 listed_in (loosen i j) = []
 listed_in (replace a b list) = list
+
+-- the edit as plain numbers, with that list in the place of a replacement's text
+abbrev pub meant : Edit → List ℕ → Change
+meant (Swap k) list = swap k
+meant (Group a b) list = group a b
+meant (Ungroup a b) list = ungroup a b
+meant (Loosen i j) list = loosen i j
+meant (Replace a b text) list = replace a b list
 
 -- the first edit among the lines is read, and the reader stands behind it
 pub record NextEdit (lines : List Line) (e : Edit) (reader : Reader) : Type 0 where

@@ -1,5 +1,5 @@
 -- What the program writes for a book.
-use Rattle.std.specs.Prelude.{◌≡◌, ℕ, ◌+◌, ◌<◌, ◌≤◌, Bool, true, false, ◌⊎◌, List, ◌++◌, length, Ok, Err, sum_by, Result}
+use Rattle.std.specs.Prelude.{◌≡◌, ℕ, ◌+◌, ◌<◌, ◌≤◌, Bool, true, false, ◌⊎◌, List, [], ◌∷◌, ◌++◌, length, Ok, Err, sum_by, Result}
 use Rattle.std.specs.List.{slice_get}
 use Rattle.std.specs.Option.{option_map, unwrap_or}
 use Rattle.orders.specs.Facts.{Good}
@@ -19,7 +19,7 @@ use Rattle.lines.specs.Text.{listing_text, reply_text}
 use Rattle.lines.specs.Writing.{Wrote}
 use Rattle.lines.specs.declared.answer.Reply.TheVariants.{Bad, Unlaid}
 use Rattle.lines.specs.declared.answer.ShortBuffer.{ShortBuffer}
-use Rattle.week.specs.Editing.{CarriedOut, book_prices, replies}
+use Rattle.week.specs.Editing.{CarriedOut, answer_text, book_prices, replies}
 use Rattle.week.specs.Laying.{week_effects, week_outline}
 use Rattle.week.specs.declared.answering.Outcome.{Outcome}
 use Rattle.week.specs.declared.answering.Outcome.TheVariants.{Listed as ListedAs, Refused as RefusedAs}
@@ -65,10 +65,25 @@ pub record Edited (w : Week) (changes : List Change) (answers : List (Result ℕ
 abbrev pub Listed : List ℕ → Week → Type 0
 Listed text w = (answers : List (Result ℕ EditFault)) × ((last : Sheet) × Edited w w.changes answers last × (text ≡ replies answers ++ sheet_text w last))
 
--- the lines for the first of the edits
-abbrev pub Begun : List ℕ → Week → Type 0
-Begun text w = (front : List Change) × (more : List Change) × (w.changes ≡ front ++ more)
-    × ((answers : List (Result ℕ EditFault)) × ((last : Sheet) × Edited w front answers last × (text ≡ replies answers)))
+-- the line for one of the edits does not fit any more: the buffer has those of the edits before it, and no other byte changed
+pub record CutOff (w : Week) (before after : List ℕ) : Type 0 where
+  pub front : List Change
+  pub more : List Change
+  pub split : w.changes ≡ front ++ more
+  pub answers : List (Result ℕ EditFault)
+  pub answer : Result ℕ EditFault
+  pub last : Sheet
+  pub edited : Edited w front (answers ++ answer ∷ []) last
+  pub short : length before < length (replies answers ++ answer_text answer)
+  pub wrote : Wrote (replies answers) before after
+
+-- the lines for all edits fit, and the listing behind them does not: the buffer has just those lines
+pub record Unlisted (w : Week) (before after : List ℕ) : Type 0 where
+  pub answers : List (Result ℕ EditFault)
+  pub last : Sheet
+  pub edited : Edited w w.changes answers last
+  pub short : length before < length (replies answers ++ sheet_text w last)
+  pub wrote : Wrote (replies answers) before after
 
 -- or it cannot be laid, and the lowest wanting place and its lowest wanting fact are named
 abbrev pub NotLaid : List ℕ → Week → Type 0
@@ -87,9 +102,15 @@ abbrev pub Text : List ℕ → Bool → List ℕ → Type 0
 Text book true text = WeekOf book (Listed text)
 Text book false text = NoSheet book text
 
--- a front of that text: all of it, or the lines for the first of the edits
-abbrev pub Front : List ℕ → List ℕ → Type 0
-Front book text = ((accepted : Bool) × Text book accepted text) ⊎ WeekOf book (Begun text)
+-- the buffer is too short for a week's text, and has the lines that fit
+abbrev pub WeekCut : Week → List ℕ → List ℕ → Type 0
+WeekCut w before after = CutOff w before after ⊎ Unlisted w before after
+
+-- the buffer is too short for the text of a book: it has the lines for edits that fit, or is as it was where the text is one line
+abbrev pub TooShort : List ℕ → List ℕ → List ℕ → Type 0
+TooShort book before after =
+    WeekOf book (λ w. WeekCut w before after)
+    ⊎ ((text : List ℕ) × NoSheet book text × (length before < length text) × (after ≡ before))
 
 -- whether the book is accepted, and its plan listed
 abbrev pub accepted : Outcome → Bool
@@ -105,7 +126,7 @@ len_of (RefusedAs len) = len
 abbrev pub Written : (Bool → List ℕ → Type 0) → List ℕ → Outcome → List ℕ → Type 0
 Written Wanted before o after = (text : List ℕ) × Wanted (accepted o) text × (length text ≤ length before) × (len_of o ≡ length text) × Wrote text before after
 
--- a wanted text is written; or the buffer is too short for it, and has those lines that fit
-abbrev pub Writes : (Bool → List ℕ → Type 0) → (List ℕ → Type 0) → List ℕ → Result Outcome ShortBuffer → List ℕ → Type 0
-Writes Wanted Begins before (Ok o) after = Written Wanted before o after
-Writes Wanted Begins before (Err e) after = (written : List ℕ) × (next : List ℕ) × Begins (written ++ next) × (length before < length (written ++ next)) × Wrote written before after
+-- a wanted text is written; or the buffer is too short for it, in that way
+abbrev pub Writes : (Bool → List ℕ → Type 0) → (List ℕ → List ℕ → Type 0) → List ℕ → Result Outcome ShortBuffer → List ℕ → Type 0
+Writes Wanted Short before (Ok o) after = Written Wanted before o after
+Writes Wanted Short before (Err e) after = Short before after

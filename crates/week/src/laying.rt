@@ -13,14 +13,14 @@ use sets::list::ArrayVec;
 use sheet::{Sheet, SheetFault, lay};
 use task::{BookTariff, Tariff, Task};
 
-// A week's plan as a sheet, and the task that its steps are of.
+/// A week's plan as a sheet, and the task that its steps are of.
 #[derive(Drop)]
 pub struct LaidWeek {
     pub task: Task,
     pub sheet: Sheet,
 }
 
-// The sheet of the book's plan, or the line that says why there is none.
+/// The sheet of the book's plan, or the line that says why there is none.
 pub fn lay_week(book: &[u8]) -> Result<LaidWeek, Reply>
     ensures { MatchResult result
         (λ week. WeekOf book.now (λ w. LaidAs w week.task week.sheet))
@@ -50,8 +50,8 @@ fn unlaid(fault: SheetFault) -> Reply
 }
 
 impl LaidWeek {
-    // Writes the listing of the sheet to the front of `out`, by the book's prices, and returns its length. A buffer that is too
-    // short is refused, and stays as it was.
+    /// Writes the listing of the sheet to the front of `out`, by the book's prices, and returns its length. A buffer that is too
+    /// short is refused, and stays as it was.
     pub fn list(&self, out: &mut [u8]) -> Result<usize, ShortBuffer>
         ensures { Answers (task_text self.now.task (actions self.now.sheet)) out.old result out.new }
     {

@@ -6,7 +6,7 @@ ghost use Rattle.orders.specs.Changes.{Change};
 ghost use Rattle.records.specs.Lines.{Line, Proper, ProperChange};
 ghost use Rattle.records.specs.Reading.{unread};
 ghost use Rattle.records.specs.Records.{EditSays};
-ghost use Rattle.week.specs.Editing.{NextEdit, changes_in, listed_in};
+ghost use Rattle.week.specs.Editing.{NextEdit, changes_in, listed_in, meant};
 ghost use Rattle.sets.specs.Contents.{contents};
 ghost use Rattle.std.specs.List.{AllByRecursion};
 ghost use Rattle.text.specs.Fields.{IsList};
@@ -18,7 +18,8 @@ use sets::list::ArrayVec;
 use task::Plan;
 use text::Entries;
 
-/// The next edit among the lines that are still to be read; nothing where none is left, or where a line is none.
+/// The next edit among the lines that are still to be read; nothing where none is left. What it hands out of a text that is
+/// no lines of a book is not promised; each edit that it hands out leaves less to be read.
 pub fn next_edit<'a>(reader: &mut Reader<'a>) -> Option<Written<'a>>
     ensures says { (lines : List Line) → AllByRecursion Proper lines → unread reader.old ≡ bytes lines →
         MatchOption result
@@ -34,7 +35,8 @@ pub fn next_edit<'a>(reader: &mut Reader<'a>) -> Option<Written<'a>>
     None
 }
 
-/// The list of action numbers that the edit writes out: that of a replacement; any other has none.
+/// The list of action numbers that the edit writes out: that of a replacement; any other has none. A replacement's text
+/// that is no list of at most 128 numbers gives some list, of which nothing is promised; no edit of a book that loads has one.
 pub fn list_of(edit: &Written<'_>) -> Plan
     ensures { (change : Change) → ProperChange change → ChangeFits change → EditSays edit.now change →
         contents result ≡ listed_in change }
@@ -45,9 +47,10 @@ pub fn list_of(edit: &Written<'_>) -> Plan
     }
 }
 
-/// The edit of a sheet that the book's edit is, with its list as numbers.
+/// The edit of a sheet that the book's edit is, with that list in the place of a replacement's own text.
 pub fn meant<'l>(edit: Written<'_>, list: &'l [u32]) -> Edit<'l>
-    ensures { (change : Change) → EditSays edit.entry change → list.now ≡ listed_in change → change_of result ≡ change }
+    ensures means { change_of result ≡ meant edit.entry list.now }
+    ensures says { (change : Change) → EditSays edit.entry change → list.now ≡ listed_in change → change_of result ≡ change }
 {
     match edit {
         Written::Swap(k) => Edit::Swap(k as usize),
