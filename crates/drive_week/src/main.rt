@@ -7,6 +7,7 @@ mod telling;
 mod watching;
 mod weeks;
 
+use anyhow::anyhow;
 use book::load::LONGEST_BOOK;
 use clap::{Arg, ArgAction, ArgMatches, Command};
 use std::alloc::Global;
@@ -54,15 +55,17 @@ fn book_of(rt: &HostRuntime, name: Option<&str>) -> io::Result<Vec<u8>> {
 fn tell<W: Write>(out: &mut W, book: &[u8], lacking: &Facts, heap: Global) -> anyhow::Result<bool> {
     let week = Week::read(book, heap)?;
     let start = week.start_without(lacking);
-    let run = week.tell_lowest(out, &start, heap)?;
-    let highest = week.tell_highest(out, &start, &run)?;
-    Ok(run.as_laid.is_ok() && run.as_edited.is_ok() && highest)
+    let done = week.tell_lowest(out, &start, heap)?;
+    let highest = week.tell_highest(out, &start, &done)?;
+    Ok(done.as_laid.is_ok() && done.as_edited.is_ok() && highest)
 }
 
 fn lacking(matches: &ArgMatches<'_>) -> anyhow::Result<Facts> {
     let mut facts = Facts::empty();
     if let Some(text) = matches.get_str("without") {
-        let _ = facts.insert(text.parse::<usize>()?);
+        if !facts.insert(text.parse::<usize>()?) {
+            return Err(anyhow!("there is no fact {text}"));
+        }
     }
     Ok(facts)
 }

@@ -1,6 +1,6 @@
 -- What comes of a take, a done and a put back, one behind the other.
 use Rattle.std.proofs.Common.{◌≡◌, ℕ, Some, None, Option, Result, Ok, Err, refl, ap, sym, ◌∙◌, subst, inl, inr}
-use Rattle.driving.specs.Calls.{Bears, Does, Moment, PutsBack, RefusedAt, Takes, TakesAndDoes, Work}
+use Rattle.driving.specs.Calls.{Bears, Does, Moment, PutsBack, Takes, TakesAndDoes, Work}
 use Rattle.runs.specs.Faults.{told, why}
 use Rattle.runs.specs.declared.fault.RunFault.{RunFault}
 use Rattle.runs.specs.declared.fault.RunFault.TheVariants.{NoPosition, NotOpen, NoSlip, UnknownAction, Rig}

@@ -1,9 +1,9 @@
 -- One more step of a driving, seen from the work that the run is over.
-use Rattle.std.proofs.Common.{◌≡◌, ℕ, Ok, Err, Result, ap, sym, subst}
+use Rattle.std.proofs.Common.{◌≡◌, ℕ, Ok, Err, ap, sym, subst}
 use Rattle.driver.specs.Ends.{AreOpen, Follows, Picks}
-use Rattle.driver.specs.Ends.Follows.{begun, went}
+use Rattle.driver.specs.Ends.Follows.{begun}
 use Rattle.driving.specs.Calls.{Moment, RefusedAt, TakesAndDoes, Work, opening}
-use Rattle.driving.specs.Drivings.{AsLaid, Undone}
+use Rattle.driving.specs.Drivings.{Undone}
 use Rattle.driving.specs.Meanings.{Meaning}
 use Rattle.runs.specs.Faults.{why}
 use Rattle.runs.specs.declared.fault.RunFault.{RunFault}

@@ -1,11 +1,11 @@
 -- Over a good sheet a driving ends well.
-use Rattle.std.proofs.Common.{◌≡◌, ℕ, ◌<◌, Bool, true, false, Some, None, Result, Ok, Err, MatchBool, refl, ap, sym, subst, ◌∙◌, ⊎_elim, arith}
-use Rattle.driver.specs.Ends.{AreOpen, DoesAsLaid, DoesWell, Ends, EndsWell, Follows, Picks, PicksAmiss}
+use Rattle.std.proofs.Common.{◌≡◌, ℕ, true, ◌⊎◌, Some, None, Result, Ok, Err, inl, inr, refl, ap, sym, subst, ◌∙◌, ⊎_elim, arith}
+use Rattle.driver.specs.Ends.{DoesAsLaid, DoesWell, EndedWell, Ends, EndsWell, Follows, Picks, PicksAmiss}
 use Rattle.driver.specs.Ends.Follows.{begun, went}
 use Rattle.driving.proofs.Good.{good_sheet_serves}
 use Rattle.driving.proofs.Laid.{drives_on, good_sheet_serves_as_laid, laid_drives}
-use Rattle.driving.specs.Calls.{Bears, Does, Moment, Open, RefusedAt, Takes, TakesAndDoes, Work}
-use Rattle.driving.specs.Drivings.{AsLaid, Begins, Drives, Serves, Undone}
+use Rattle.driving.specs.Calls.{Bears, Does, Moment, Open, RefusedAt, Takes, Work}
+use Rattle.driving.specs.Drivings.{AsLaid, Begins, Drives, Serves}
 use Rattle.driving.specs.Drivings.Drives.{opened, took}
 use Rattle.driving.specs.Meanings.{Meaning}
 use Rattle.driving.specs.Theorems.{AllKnown}
@@ -14,17 +14,7 @@ use Rattle.orders.specs.Sheets.{Rules}
 use Rattle.runs.specs.Faults.{why}
 use Rattle.runs.specs.declared.fault.RunFault.{RunFault}
 use Rattle.runs.specs.declared.fault.RunFault.TheVariants.{NoPosition, NotOpen, NoSlip, UnknownAction, Rig}
-use Rattle.sets.specs.Sets.{has}
 use Rattle.sets.specs.declared.bits.BitSet.{BitSet}
-
--- the answer to a test where the fact fails, and where it holds
-tested_false : (b : Bool) (P : Type 0) → MatchBool b P (P → ⊥) → (P → ⊥) → b ≡ false
-tested_false true P h fails = absurd (fails h)
-tested_false false P h fails = refl
-
-tested_true : (b : Bool) (P : Type 0) → MatchBool b P (P → ⊥) → P → b ≡ true
-tested_true true P h holds = refl
-tested_true false P h holds = absurd (h holds)
 
 module _ (w : Work) (m : Moment) (p : ℕ) (fault : RunFault) where
   -- a take is refused only where the position is not open
@@ -34,6 +24,14 @@ module _ (w : Work) (m : Moment) (p : ℕ) (fault : RunFault) where
   take_not_open NoSlip t o = t
   take_not_open UnknownAction t o = t
   take_not_open (Rig at) t o = t
+
+  -- and for no other reason
+  take_choice : (f : RunFault) → Takes w m p (Err (why f)) None m → (f ≡ NoPosition) ⊎ (f ≡ NotOpen)
+  take_choice NoPosition t = inl refl
+  take_choice NotOpen t = inr refl
+  take_choice NoSlip t = absurd t
+  take_choice UnknownAction t = absurd t
+  take_choice (Rig at) t = absurd t
 
   -- and where no step is refused, no done with the slip of an accepted take is
   done_not_refused : (taken : Moment) → Serves w taken → Bears taken (Some p) p → (f : RunFault) → Does w taken (Some p) (Err (why f)) (Some p) taken → ⊥
@@ -54,6 +52,14 @@ module _ (w : Work) (rules : Rules w.order) (known : AllKnown w) (good : Good w.
       (λ t. take_not_open w m p fault fault t o)
       (λ (taken, takes, does). done_not_refused w m p fault taken
       (serves taken (took {m = m} p (Ok tt) (Some p) d takes)) (refl, ap (λ k. k.taken) takes.2) fault does)
+      r
+
+  -- and the refusal is one of the choice
+  refused_choice : (m : Moment) (p : ℕ) (fault : RunFault) → Drives w rig m → RefusedAt w m p (why fault) → (fault ≡ NoPosition) ⊎ (fault ≡ NotOpen)
+  refused_choice m p fault d r = ⊎_elim
+      (λ t. take_choice w m p fault fault t)
+      (λ (taken, takes, does). absurd (done_not_refused w m p fault taken
+      (serves taken (took {m = m} p (Ok tt) (Some p) d takes)) (refl, ap (λ k. k.taken) takes.2) fault does))
       r
 
   -- which it is at no position in home order
@@ -79,35 +85,26 @@ module _ (w : Work) (rules : Rules w.order) (known : AllKnown w) (good : Good w.
     follows_free (went p d n follows asks (taken, takes, does)) = does.4
 
     -- where its step is refused, it had an open position to pick
-    picks_amiss : (c : C) (m : Moment) (p : ℕ) (d : C) (fault : RunFault) → Follows picks w rig first c m → Picks picks w m c p d → RefusedAt w m p (why fault) → PicksAmiss picks
-    picks_amiss c m p d fault follows asks refused =
+    picks_amiss : (c : C) (m : Moment) (p : ℕ) (d : C) (fault : RunFault) (rig' : Meaning) → Follows picks w rig first c m → m.rig ≡ rig' →
+        Picks picks w m c p d → RefusedAt w m p (why fault) → PicksAmiss picks w rig first rig'
+    picks_amiss c m p d fault rig' follows is asks refused =
         let drives = follows_drives follows in
-        let (q, o) = (serves m drives).no_dead_end asks.undone (follows_free follows) in (
-          c,
-          (
-            d,
-            (
-              asks.ready,
-              (
-                p,
-                asks.picked,
-                tested_false (has asks.ready p) _ (asks.are_open p) (refused_not_open m p fault drives refused),
-                (q, tested_true (has asks.ready q) _ (asks.are_open q) o),
-              ),
-            ),
-          ),
-        )
+        let open_one = (serves m drives).no_dead_end asks.undone (follows_free follows) in
+        (c, (m, follows, is, (p, (d, asks, refused_not_open m p fault drives refused, open_one))))
 
-    ends_well_here : (rig' : Meaning) (r : Result (Unit {0}) RunFault) → Ends picks w rig first r rig' → EndsWell picks w rig r rig'
-    ends_well_here rig' (Ok x) (c, (last, follows, is, all)) k g b = λ f goal.
+    ended_well : (rig' : Meaning) (r : Result (Unit {0}) RunFault) → Ends picks w rig first r rig' → EndedWell picks w rig first r rig'
+    ended_well rig' (Ok x) (c, (last, follows, is, all)) = λ f goal.
         sym (ap (λ m. m.standing f) is) ∙ (serves last (follows_drives follows)).ends_with_goal all f goal
-    ends_well_here rig' (Err fault) (c, (last, follows, is, (p, (d, asks, refused)))) k g b = picks_amiss c last p d fault follows asks refused
+    ended_well rig' (Err fault) (c, (last, follows, is, (p, (d, asks, refused)))) = (
+      refused_choice last p fault (follows_drives follows) refused,
+      picks_amiss c last p d fault rig' follows is asks refused,
+    )
 
 -- a driving by what a closure picks ends well
 pub ends_well : {C : Type 0} (picks : C → BitSet 2 → ℕ → C → Type 0) (w : Work) → Rules w.order → (rig : Meaning) (first : C)
-    (r : Result (Unit {0}) RunFault) (rig' : Meaning) → Ends picks w rig first r rig' → EndsWell picks w rig r rig'
+    (r : Result (Unit {0}) RunFault) (rig' : Meaning) → Ends picks w rig first r rig' → EndsWell picks w rig first r rig'
 ends_well picks w rules rig first r rig' ends known good begins =
-    ends_well_here w rules known good rig begins picks first rig' r ends known good begins
+    ended_well w rules known good rig begins picks first rig' r ends
 
 -- and a plan is done as laid
 pub laid_well : (w : Work) → Rules w.order → (rig : Meaning) (r : Result (Unit {0}) RunFault) (rig' : Meaning) → DoesAsLaid w rig r rig' → DoesWell w rig r rig'

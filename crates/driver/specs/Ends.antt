@@ -1,12 +1,13 @@
 -- How the steps of a sheet are taken and done one after another, and where that ends.
-use Rattle.std.specs.Prelude.{◌≡◌, ℕ, ◌<◌, true, false, ◌⊎◌, Ok, Err, Result, MatchBool, MatchResult}
+use Rattle.std.specs.Prelude.{◌≡◌, ℕ, ◌<◌, true, ◌⊎◌, Ok, Result, MatchBool, MatchResult}
 use Rattle.driving.specs.Calls.{Moment, Open, RefusedAt, TakesAndDoes, Work, opening}
-use Rattle.driving.specs.Drivings.{AllDone, AsLaid, Begins, GoalStands, Undone}
+use Rattle.driving.specs.Drivings.{AllDone, AsLaid, Begins, Undone}
 use Rattle.driving.specs.Meanings.{Meaning}
 use Rattle.driving.specs.Theorems.{AllKnown}
 use Rattle.orders.specs.Facts.{Good}
 use Rattle.runs.specs.Faults.{why}
 use Rattle.runs.specs.declared.fault.RunFault.{RunFault as Fault}
+use Rattle.runs.specs.declared.fault.RunFault.TheVariants.{NoPosition, NotOpen}
 use Rattle.sets.specs.Sets.{has}
 use Rattle.sets.specs.declared.bits.BitSet.{BitSet}
 
@@ -37,25 +38,30 @@ Ends {C} picks w rig first r rig' = (c : C) × ((last : Moment) × Follows picks
     (λ _. AllDone w last)
     (λ fault. (p : ℕ) × ((d : C) × Picks picks w last c p d × RefusedAt w last p (why fault))))
 
--- the closure was shown an open position, and picked one that is not
-abbrev pub PicksAmiss : {C : Type 0} → (C → BitSet 2 → ℕ → C → Type 0) → Type 0
-PicksAmiss {C} picks = (c : C) × ((d : C) × ((ready : BitSet 2) × ((p : ℕ) × picks c ready p d
-    × (has ready p ≡ false) × ((q : ℕ) × (has ready q ≡ true)))))
+-- the driving has led the closure to where it picked a position that is not open, though one is
+abbrev pub PicksAmiss : {C : Type 0} → (C → BitSet 2 → ℕ → C → Type 0) → Work → Meaning → C → Meaning → Type 0
+PicksAmiss {C} picks w rig first rig' = (c : C) × ((last : Moment) × Follows picks w rig first c last × (last.rig ≡ rig')
+    × ((p : ℕ) × ((d : C) × Picks picks w last c p d × (Open w.order last p → ⊥) × ((q : ℕ) × Open w.order last q))))
 
--- over a good sheet of known actions, on a rig with just the start facts and enough steps left, all goal facts stand
--- at the end, which is come to but by a closure that picks amiss
-abbrev pub EndsWell : {C : Type 0} → (C → BitSet 2 → ℕ → C → Type 0) → Work → Meaning →
+-- all goal facts stand at the end, or the closure picked amiss, and the refusal is that of its pick
+abbrev pub EndedWell : {C : Type 0} → (C → BitSet 2 → ℕ → C → Type 0) → Work → Meaning → C →
     Result (Unit {0}) Fault → Meaning → Type 0
-EndsWell picks w rig r rig' = AllKnown w → Good w.order w.effects → Begins w rig →
-    MatchResult r (λ _. (f : ℕ) → w.effects.goal f ≡ true → rig'.standing f ≡ true) (λ fault. PicksAmiss picks)
+EndedWell picks w rig first r rig' = MatchResult r
+    (λ _. (f : ℕ) → w.effects.goal f ≡ true → rig'.standing f ≡ true)
+    (λ fault. ((fault ≡ NoPosition) ⊎ (fault ≡ NotOpen)) × PicksAmiss picks w rig first rig')
+
+-- so it does over a good sheet of known actions, on a rig with just the start facts and enough steps left
+abbrev pub EndsWell : {C : Type 0} → (C → BitSet 2 → ℕ → C → Type 0) → Work → Meaning → C →
+    Result (Unit {0}) Fault → Meaning → Type 0
+EndsWell picks w rig first r rig' = AllKnown w → Good w.order w.effects → Begins w rig → EndedWell picks w rig first r rig'
 
 -- the rig is left behind the last step in home order, or where one is refused
 abbrev pub DoesAsLaid : Work → Meaning → Result (Unit {0}) Fault → Meaning → Type 0
 DoesAsLaid w rig r rig' = (k : ℕ) × ((last : Moment) × AsLaid w rig k last × (last.rig ≡ rig')
     × MatchResult r (λ _. k ≡ w.order.size) (λ fault. (k < w.order.size) × RefusedAt w last k (why fault)))
 
--- over a good sheet of known actions, on a rig with just the start facts and enough steps left, none is, and all goal
--- facts stand
+-- over a good sheet of known actions, on a rig with just the start facts and enough steps left, no step is refused,
+-- and all goal facts stand at the end
 abbrev pub DoesWell : Work → Meaning → Result (Unit {0}) Fault → Meaning → Type 0
 DoesWell w rig r rig' = AllKnown w → Good w.order w.effects → Begins w rig →
     (r ≡ Ok tt) × ((f : ℕ) → w.effects.goal f ≡ true → rig'.standing f ≡ true)

@@ -23,7 +23,7 @@ pub fn drive<R: Rig, C: FnMut(&BitSet<2>) -> usize>(
     ensures keeps { R.kept rig.old rig.new }
     ensures ends { Ends (CalledAt C.FnMut) (work task.now sheet.now) (R.meaning rig.old) choose
         result (R.meaning rig.new) }
-    ensures well { EndsWell (CalledAt C.FnMut) (work task.now sheet.now) (R.meaning rig.old)
+    ensures well { EndsWell (CalledAt C.FnMut) (work task.now sheet.now) (R.meaning rig.old) choose
         result (R.meaning rig.new) }
 {
     as_picked(task, sheet, rig, choose)

@@ -1,15 +1,16 @@
 -- What an edit answers is right of the sheet that it was asked for.
-use Rattle.std.proofs.Common.{◌≡◌, ℕ, true, ◌⊎◌, ◌↔◌, List, length, Ok, Err, Result, MatchResult, refl, sym, subst, inl, inr, ⊎_elim, arith}
-use Rattle.std.proofs.lemmas.Bool.{both_ways}
+use Rattle.std.proofs.Common.{◌≡◌, ℕ, ◌-◌, true, false, ◌⊎◌, ◌↔◌, List, length, Ok, Err, Result, MatchResult, refl, sym, subst, inl, inr, ⊎_elim, arith}
+use Rattle.std.proofs.lemmas.Bool.{both_ways, false≢true}
+use Rattle.std.proofs.lemmas.Bool.Decides.{nat_tests}
 use Rattle.orders.proofs.EditGroup.{group_keeps_good, group_keeps_rules}
 use Rattle.orders.proofs.EditLoosen.{loosen_keeps_rules, ungroup_keeps_rules}
 use Rattle.orders.proofs.EditReplace.{replace_keeps_rules}
-use Rattle.orders.proofs.EditSwap.{swap_keeps_good, swap_keeps_rules}
+use Rattle.orders.proofs.EditSwap.{bounds, swap_keeps_good, swap_keeps_rules}
 use Rattle.orders.specs.Changes.{Change}
 use Rattle.orders.specs.Changes.Change.{group, loosen, replace, swap, ungroup}
-use Rattle.orders.specs.Edits.{CanLoosen, comes, grouped, loosened, replaced, swapped, ungrouped}
+use Rattle.orders.specs.Edits.{CanGroup, CanLoosen, Neighbours, comes, grouped, loosened, replaced, swapped, ungrouped}
 use Rattle.orders.specs.Facts.{Good, Wanting}
-use Rattle.orders.specs.Sheets.{Outline, Rules}
+use Rattle.orders.specs.Sheets.{Apart, Outline, Rules, Within}
 use Rattle.driving.specs.Drivings.{Begins}
 use Rattle.driving.specs.Meanings.{Meaning}
 use Rattle.driving.specs.Theorems.{SomeDrivingFails}
@@ -20,7 +21,7 @@ use Rattle.edits.specs.Applying.{ByRule, with_no_saving}
 use Rattle.edits.specs.Replacing.{Replaces, Unless, put_in}
 use Rattle.edits.specs.Swaps.{Swaps}
 use Rattle.runs.specs.Views.{work_in}
-use Rattle.shaping.specs.Answers.{CheckRefused, Groups, Loosens, Ungroups}
+use Rattle.shaping.specs.Answers.{CheckRefused, Groups, Loosens, Ungroups, crosses}
 use Rattle.shaping.specs.declared.fault.EditFault.{EditFault}
 use Rattle.sheet.proofs.SheetRules.{sheet_rules}
 use Rattle.sheet.specs.Sheets.{actions, outline}
@@ -28,12 +29,12 @@ use Rattle.sheet.specs.Verdicts.{AllKnown, Passes, effects_of}
 use Rattle.sheet.specs.declared.sheet.Sheet.{Sheet}
 use Rattle.task.specs.declared.tasks.Task.{Task}
 use Rattle.whole_week.proofs.Working.{Sound, none_fails, some_fails}
-use Rattle.whole_week.specs.Week.{Asks, RefusedForFact}
+use Rattle.whole_week.specs.Week.{Asks, IsAccepted, RefusedForFact}
 
--- no fact is wanting and the answer names none as missing; or one is, and the answer names one
+-- no fact is wanting and the edit is accepted; or one is, and the answer names one as missing
 abbrev Right : Task → Result ℕ EditFault → List ℕ → Outline → Type 0
 Right task answer numbers order =
-    (Good order (effects_of task numbers) × (RefusedForFact answer → ⊥))
+    (Good order (effects_of task numbers) × IsAccepted answer)
     ⊎ (((p : ℕ) × ((f : ℕ) × Wanting order (effects_of task numbers) p f)) × RefusedForFact answer)
 
 -- the answer to an edit that asked for these steps in this order
@@ -45,9 +46,21 @@ pub record Judged (task : Task) (answer : Result ℕ EditFault) (numbers : List 
 pub judged_exact : (task : Task) (answer : Result ℕ EditFault) (numbers : List ℕ) (order : Outline) → Judged task answer numbers order →
     (rig : Meaning) → Begins (work_in task numbers order) rig → RefusedForFact answer ↔ SomeDrivingFails (work_in task numbers order) rig
 judged_exact task answer numbers order j rig begins = (
-  λ r. ⊎_elim (λ (_, silent). absurd (silent r)) (λ ((p, (f, w)), _). some_fails task numbers order j.sound p f w rig begins) j.right,
+  λ (place, (fact, refused)). ⊎_elim (λ (_, (saving, ok)). cc) (λ ((p, (f, w)), _). some_fails task numbers order j.sound p f w rig begins) j.right,
   λ fails. ⊎_elim (λ (good, _). absurd (none_fails task numbers order j.sound good rig begins fails)) (λ (_, r). r) j.right,
 )
+
+-- and it is accepted or such a refusal
+pub judged_decided : (task : Task) (answer : Result ℕ EditFault) (numbers : List ℕ) (order : Outline) → Judged task answer numbers order →
+    IsAccepted answer ⊎ RefusedForFact answer
+judged_decided task answer numbers order j = ⊎_elim (λ (_, ok). inl ok) (λ (_, refused). inr refused) j.right
+
+-- runs that lie apart or one in the other do not cross
+not_crossed : (a b c d : ℕ) → crosses a b c d ≡ true → Apart a b c d ⊎ (Within a b c d ⊎ Within c d a b) → ⊥
+not_crossed a b c d h clear = ⊎_elim
+    (λ apart. ⊎_elim (λ l. absurd (false≢true (grind (arith, nat_tests, h)))) (λ l. absurd (false≢true (grind (arith, nat_tests, h)))) apart)
+    (λ w. ⊎_elim (λ (l, m). absurd (false≢true (grind (arith, nat_tests, h)))) (λ (l, m). absurd (false≢true (grind (arith, nat_tests, h)))) w)
+    clear
 
 -- what is said where the condition holds
 unless_held : {C H L : Type 0} → C → Unless C H L → L
@@ -69,6 +82,25 @@ module _ (task : Task) (before : Sheet) (answer : Result ℕ EditFault) (after :
   group_silent a b (Err fault) (inl (_, f), _) e (place, (fact, h)) = cc
   group_silent a b (Err fault) (inr (_, _, f), _) e (place, (fact, h)) = cc
 
+  -- swap is accepted where neither of its refusals holds
+  swap_accepted : (k : ℕ) (r : Result (Unit {0}) EditFault) → Swaps before k r after → answer ≡ with_no_saving r →
+      (a b : ℕ) → Neighbours (outline before) a k b → (outline before).tied (k - 1) k ≡ false → IsAccepted answer
+  swap_accepted k (Ok x) is e a b parts free = (0, e)
+  swap_accepted k (Err fault) (inl (none, _), _) e a b parts free =
+      let n = bounds (outline before) (sheet_rules before) a k b parts in
+      absurd (omega (arith, none, n.left, n.right, n.size))
+  swap_accepted k (Err fault) (inr (_, _, tied, _), _) e a b parts free = absurd (both_ways _ free tied)
+
+  -- so is group
+  group_accepted : (a b : ℕ) (r : Result (Unit {0}) EditFault) → Groups before a b r after → answer ≡ with_no_saving r →
+      CanGroup (outline before) a b → (outline before).block a b ≡ false → IsAccepted answer
+  group_accepted a b (Ok x) is e can new = (0, e)
+  group_accepted a b (Err fault) (inl (none, _), _) e can new = absurd (omega (arith, none, can.several, can.positions))
+  group_accepted a b (Err fault) (inr (_, why, _), _) e can new = absurd (⊎_elim
+      (λ block. both_ways _ new block)
+      (λ (c, (d, block, h)). not_crossed a b c d h (can.clear c d block))
+      why)
+
   -- where the check alone is left to refuse, it decides
   abbrev Checked : Outline → Result (Unit {0}) EditFault → Type 0
   Checked t r = MatchResult r (λ _. Passes task (actions before) t) (CheckRefused task before t)
@@ -76,7 +108,7 @@ module _ (task : Task) (before : Sheet) (answer : Result ℕ EditFault) (after :
   -- its answer is right
   checked_right : AllKnown task (actions before) → (t : Outline) (r : Result (Unit {0}) EditFault) → Checked t r →
       answer ≡ with_no_saving r → Right task answer (actions before) t
-  checked_right known t (Ok x) passes e = inl (passes.1, λ (place, (fact, h)). cc)
+  checked_right known t (Ok x) passes e = inl (passes.1, (0, e))
   checked_right known t (Err fault) (why, _, inl (number, _, first)) e =
       absurd (omega (arith, known first.at first.within, first.there, first.lacking))
   checked_right known t (Err fault) (why, f, inr (place, (fact, g, _, lowest))) e =
@@ -108,7 +140,7 @@ module _ (task : Task) (before : Sheet) (answer : Result ℕ EditFault) (after :
     replace_right a b list numbers order asks (Ok saving) is e = inl (
       subst (λ (s : Outline). Good s (effects_of task (put_in (actions before) a b list))) is.asked.new_outline
           (subst (λ (l : List ℕ). Good (outline after) (effects_of task l)) is.asked.new_actions is.good.1),
-      λ (place, (fact, h)). cc,
+      (saving, e),
     )
     replace_right a b list numbers order (run, whole, some, room, known, cheaper, _, _) (Err fault) (refused, _) e =
         let (place, (fact, f, lowest)) =
@@ -138,13 +170,13 @@ module _ (task : Task) (before : Sheet) (answer : Result ℕ EditFault) (after :
           };
           right = inl (
             subst (Good (swapped s a k b)) (sym (carried_effects task (actions before) numbers (comes a k b) is)) good,
-            swap_silent k r says h,
+            swap_accepted k r says h a b parts free,
           );
         })
-    judged (group a b) numbers order (can, _, e, f) (r, says, h) =
+    judged (group a b) numbers order (can, new, e, f) (r, says, h) =
         let s = outline before in
         same_steps numbers order (grouped s a b) e f (omega arith) (group_keeps_rules s (sheet_rules before) a b can)
-        (inl (group_keeps_good s a b (effects_of task (actions before)) passes.1, group_silent a b r says h))
+        (inl (group_keeps_good s a b (effects_of task (actions before)) passes.1, group_accepted a b r says h can new))
     judged (ungroup a b) numbers order (block, known, e, f) (r, says, h) =
         let t = ungrouped (outline before) a b in
         same_steps numbers order t e f (omega arith) (ungroup_keeps_rules (outline before) (sheet_rules before) a b)

@@ -5,7 +5,7 @@ use Rattle.driving.specs.Meanings.{Meaning}
 use Rattle.runs.specs.Views.{work}
 use Rattle.sheet.proofs.SheetRules.{sheet_rules}
 use Rattle.sheet.specs.Sheets.{actions, outline}
-use Rattle.whole_week.proofs.Answering.{judged, judged_exact}
+use Rattle.whole_week.proofs.Answering.{judged, judged_decided, judged_exact}
 use Rattle.whole_week.proofs.Asking.{accepted_asks, refused_asks}
 use Rattle.whole_week.proofs.Edited.{edits_balance, edits_pass, laid_passes}
 use Rattle.whole_week.proofs.Working.{all_serve, known_all, sheet_sound}
@@ -24,8 +24,11 @@ whole_week first second prices task plan laid changes sum sheet lays edits =
       over_laid = λ rig begins m. all_serve task (actions laid) (outline laid) sound good (first rig) begins m;
       as_edited = λ rig begins m. all_serve task (actions sheet) (outline sheet) stays_sound passes.1 (second rig) begins m;
       balanced = edits_balance prices task laid edits;
-      exact = λ change numbers order asks answer after applies rig.
-          judged_exact task answer numbers order (judged task sheet answer after passes prices change numbers order asks applies.by_rule) (second rig);
+      decided = λ change numbers order asks answer after applies.
+          judged_decided task answer numbers order (judged task sheet answer after passes prices change numbers order asks applies.by_rule);
+      exact = λ change numbers order asks answer after applies.
+          let exact = judged_exact task answer numbers order (judged task sheet answer after passes prices change numbers order asks applies.by_rule) in
+          (λ rig. exact (first rig), λ rig. exact (second rig));
       accepted = λ change saving after applies. accepted_asks prices task sheet after change saving applies.by_rule;
       refused = λ change answer after applies (place, (fact, wants)).
           refused_asks prices task sheet after answer place fact wants change applies.by_rule;

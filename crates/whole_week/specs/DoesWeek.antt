@@ -1,6 +1,6 @@
 -- What a week that was carried out did, and what it came to.
-use Rattle.std.specs.Prelude.{◌≡◌, ℕ, ◌+◌, true, List, Ok, MatchResult, sum_by}
-use Rattle.driver.specs.Ends.{DoesAsLaid, Ends, PicksAmiss}
+use Rattle.std.specs.Prelude.{◌≡◌, ℕ, ◌+◌, true, List, Ok, sum_by}
+use Rattle.driver.specs.Ends.{DoesAsLaid, EndedWell, Ends}
 use Rattle.driving.specs.Drivings.{Begins}
 use Rattle.driving.specs.Meanings.{Meaning}
 use Rattle.orders.specs.Changes.{Change}
@@ -38,4 +38,4 @@ pub record DoesWeek {C : Type 0} (picks : C → BitSet 2 → ℕ → C → Type 
   pub first_well : Begins (work task laid) first → (week.as_laid ≡ Ok tt) × GoalOn task first'
   -- nor does such a second rig refuse, unless the closure picked a position that is not open where one was
   pub second_well : Begins (work task week.sheet) second →
-      MatchResult week.as_edited (λ _. GoalOn task second') (λ fault. PicksAmiss picks)
+      EndedWell picks (work task week.sheet) second choose week.as_edited second'

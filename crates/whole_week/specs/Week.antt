@@ -1,5 +1,5 @@
 -- The whole week: a plan laid, its sheet edited, a rig driven over each.
-use Rattle.std.specs.Prelude.{◌≡◌, ℕ, ◌+◌, ◌-◌, ◌<◌, ◌↔◌, true, false, List, [], ◌∷◌, ◌++◌, length, Ok, Err, Result, sum_by}
+use Rattle.std.specs.Prelude.{◌≡◌, ℕ, ◌+◌, ◌-◌, ◌<◌, ◌↔◌, ◌⊎◌, true, false, List, [], ◌∷◌, ◌++◌, length, Ok, Err, Result, sum_by}
 use Rattle.std.specs.List.{slice_get}
 use Rattle.driving.specs.Calls.{Moment}
 use Rattle.driving.specs.Drivings.{Begins, Drives, Serves}
@@ -45,6 +45,10 @@ Asks prices task s (replace a b list) numbers order = AreRun (outline s) a b × 
     × HasRoom (outline s) a b (length list) × AllKnown task (actions s ++ list) × IsCheaper prices (actions s) a b list
     × (numbers ≡ put_in (actions s) a b list) × (order ≡ replaced (outline s) a b (length list))
 
+-- accepted, with a saving
+abbrev pub IsAccepted : Result ℕ EditFault → Type 0
+IsAccepted answer = (saving : ℕ) × (answer ≡ Ok saving)
+
 -- refused for a missing fact
 abbrev pub RefusedForFact : Result ℕ EditFault → Type 0
 RefusedForFact answer = (place : ℕ) × ((fact : ℕ) × (answer ≡ Err (OfSheet (WantingFact place fact))))
@@ -53,7 +57,7 @@ RefusedForFact answer = (place : ℕ) × ((fact : ℕ) × (answer ≡ Err (OfShe
 -- kinds, by what each means
 pub record Promise {R S : Type 0} (first : R → Meaning) (second : S → Meaning)
     (prices : ℕ → ℕ) (task : Task) (laid : Sheet) (sum : ℕ) (sheet : Sheet) : Type 0 where
-  -- the first rig does the plan as laid, and no driving of it over the laid sheet meets a refused step, a dead end or
+  -- the first rig can do the plan as laid, and no driving of it over the laid sheet meets a refused step, a dead end or
   -- an end without the goal
   pub as_laid : (rig : R) → Begins (work task laid) (first rig) → ServesAsLaid (work task laid) (first rig)
   pub over_laid : (rig : R) → Begins (work task laid) (first rig) → (m : Moment) →
@@ -63,12 +67,17 @@ pub record Promise {R S : Type 0} (first : R → Meaning) (second : S → Meanin
       Drives (work task sheet) (second rig) m → Serves (work task sheet) m
   -- the laid plan's price is the edited sheet's and all that was saved
   pub balanced : sum_by prices (actions laid) ≡ sum_by prices (actions sheet) + sum
-  -- an edit that meets no other refusal is refused for a missing fact exactly when some driving over the sheet it asked
-  -- for fails
+  -- an edit that meets no other refusal is accepted, or refused for a missing fact
+  pub decided : (change : Change) (numbers : List ℕ) (order : Outline) → Asks prices task sheet change numbers order →
+      (answer : Result ℕ EditFault) (after : Sheet) → Applies prices task sheet change answer after →
+      IsAccepted answer ⊎ RefusedForFact answer
+  -- and that exactly when some driving over the sheet it asked for fails, on each rig of either kind
   pub exact : (change : Change) (numbers : List ℕ) (order : Outline) → Asks prices task sheet change numbers order →
       (answer : Result ℕ EditFault) (after : Sheet) → Applies prices task sheet change answer after →
-      (rig : S) → Begins (work_in task numbers order) (second rig) →
-      RefusedForFact answer ↔ SomeDrivingFails (work_in task numbers order) (second rig)
+      ((rig : R) → Begins (work_in task numbers order) (first rig) →
+      RefusedForFact answer ↔ SomeDrivingFails (work_in task numbers order) (first rig))
+      × ((rig : S) → Begins (work_in task numbers order) (second rig) →
+      RefusedForFact answer ↔ SomeDrivingFails (work_in task numbers order) (second rig))
   -- an accepted edit leaves the sheet that it asked for
   pub accepted : (change : Change) (saving : ℕ) (after : Sheet) → Applies prices task sheet change (Ok saving) after →
       Asks prices task sheet change (actions after) (outline after)
