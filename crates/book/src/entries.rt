@@ -7,8 +7,8 @@ ghost use Rattle.book.specs.Weeks.{Known};
 use task::{Facts, LONGEST_LIST, Task};
 use text::Entries;
 
-// The set that the text writes, if it names only facts of the task. That a text writes a set is said by each function that
-// takes one: a struct around the text would hold it as a truncated ghost field, out of which each would have to take it.
+/// The set that the text writes, if it names only facts of the task. That a text writes a set is said by each function that
+/// takes one: a struct around the text would hold it as a truncated ghost field, out of which each would have to take it.
 pub fn known_facts(text: &[u8], task: &Task) -> Option<Facts>
     ensures { (set : List ℕ) → IsList text.now set → MatchOption result
         (Known task.now.facts set → ⊥)
@@ -26,7 +26,7 @@ pub fn known_facts(text: &[u8], task: &Task) -> Option<Facts>
     Some(set)
 }
 
-// Whether the list that the text writes has at most 128 entries: a comma stands between two.
+/// Whether the list that the text writes has at most 128 entries: a comma stands between two.
 pub fn is_short(text: &[u8]) -> bool
     ensures { (list : List ℕ) → IsList text.now list → MatchBool result (length list ≤ 128) (128 < length list) }
 {

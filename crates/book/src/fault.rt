@@ -7,18 +7,18 @@ ghost use Rattle.book.specs.declared.fault.TurnFault.TheVariants.{Full as no_roo
 use records::fault::RecordFault;
 use task::Full;
 
-// Why a record may not stand where it does.
+/// Why a record may not stand where it does.
 #[derive(Clone, Copy, Debug, PartialEq)]
 pub enum TurnFault {
-    // the records come in another sequence
+    /// the records come in another sequence
     Sequence,
-    // a 65th fact, or a 129th act, step or list entry
+    /// a 65th fact, or a 129th act, step or list entry
     Full,
-    // a price over 1,000,000
+    /// a price over 1,000,000
     Price,
-    // a set or a step names what the book lacks
+    /// a set or a step names what the book lacks
     Unknown,
-    // the text ends before its goal line
+    /// the text ends before its goal line
     End,
 }
 
@@ -31,18 +31,21 @@ impl From<Full> for TurnFault {
     }
 }
 
-// A fault and the line that it was found at.
+/// A fault and the line that it was found at.
 #[derive(Clone, Copy, Debug, PartialEq)]
 pub struct At<F> {
     pub line: usize,
     pub fault: F,
 }
 
-// Why a book is refused.
+/// Why a book is refused.
 #[derive(Clone, Copy, Debug, PartialEq)]
 pub enum LoadFault {
+    /// The text has more bytes than a book can have (15).
     TooLong,
+    /// A line is not of the forms of a book (16).
     Form(At<RecordFault>),
+    /// A line may not stand where it does (17).
     Turn(At<TurnFault>),
 }
 
@@ -64,7 +67,7 @@ impl From<At<TurnFault>> for LoadFault {
     }
 }
 
-// The same answer, with the line at its fault.
+/// The same answer, with the line at its fault.
 pub fn placed<T, F>(line: usize, r: Result<T, F>) -> Result<T, At<F>>
     ensures { result ≡ at_line line r }
 {
@@ -72,7 +75,7 @@ pub fn placed<T, F>(line: usize, r: Result<T, F>) -> Result<T, At<F>>
 }
 
 impl LoadFault {
-    // The number by which the book is refused.
+    /// The number by which the book is refused.
     pub fn number(&self) -> u32
         ensures { result ≡ number_of self.now }
     {
@@ -83,7 +86,7 @@ impl LoadFault {
         }
     }
 
-    // The line that is at fault, from 1; 0 where the book is too long.
+    /// The line that is at fault, from 1; 0 where the book is too long.
     pub fn line(&self) -> usize
         ensures { result ≡ line_of self.now }
     {

@@ -7,7 +7,7 @@ use crate::loader::Loader;
 use records::reader::Reader;
 use task::{Plan, Task};
 
-// A book has at most so many bytes.
+/// A book has at most so many bytes.
 pub const LONGEST_BOOK: usize = 32_768;
 
 // The task and the plan of the whole book.
@@ -36,7 +36,7 @@ fn store(loader: Loader, task: &mut Task, plan: &mut Plan)
     *plan = loader.plan;
 }
 
-// Fills the task and the plan from the book; where it is refused, both are empty.
+/// Fills the task and the plan from the book; where it is refused, both are empty.
 pub fn load(book: &[u8], task: &mut Task, plan: &mut Plan) -> Result<(), LoadFault>
     ensures says { Loads book.now result task.new plan.new }
     ensures round_trip { RoundTrip book.now result task.new plan.new }

@@ -17,6 +17,7 @@ use records::record::{Act, Edit, Record, Side};
 use sets::list::ArrayVec;
 use task::{Action, Facts, Plan, Task};
 
+/// What is loaded so far, and which lines may follow.
 #[derive(Drop)]
 pub struct Loader {
     pub stage: Stage,
@@ -25,6 +26,7 @@ pub struct Loader {
 }
 
 impl Loader {
+    /// Nothing is loaded, and a fact may follow.
     pub fn new() -> Self
         ensures week { Holds no_week result }
         ensures stage { rank_of result.stage ≡ 0 }
@@ -36,7 +38,7 @@ impl Loader {
         }
     }
 
-    // One record more; a record that may not follow those before it is refused.
+    /// One record more; a record that may not follow those before it is refused.
     pub fn accept(&mut self, next: Record<'_>) -> Result<(), TurnFault>
         ensures { (l : Line) → Proper l → Says next.entry l → Joins self.old l result self.new }
     {
@@ -50,7 +52,7 @@ impl Loader {
         }
     }
 
-    // The text ends here, which it may from the goal line on.
+    /// The text ends here, which it may from the goal line on.
     pub fn end(&self) -> Result<(), TurnFault>
         ensures { MatchResult result (λ _. 3 ≤ rank_of self.now.stage) (λ _. rank_of self.now.stage < 3) }
     {

@@ -16,7 +16,7 @@ fn with_no_saving(answer: Result<(), EditFault>) -> Result<u32, EditFault>
     answer.map(|()| 0)
 }
 
-// Carries the edit out, and says what it saves; or refuses it, and the sheet stays as it was.
+/// Carries the edit out, and says what it saves; or refuses it, and the sheet stays as it was.
 pub fn apply<T: Tariff>(
     sheet: &mut Sheet,
     task: &Task,

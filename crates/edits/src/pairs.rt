@@ -20,7 +20,7 @@ fn paired_with<F: Fn(usize, usize) -> bool>(passes: &F, x: usize) -> BitSet<2>
     )
 }
 
-// The pairs of positions that pass, in rows.
+/// The pairs of positions that pass, in rows.
 pub fn rows_of<F: Fn(usize, usize) -> bool>(passes: F) -> Relation
     requires { (x y : ℕ) → x < 128 → y < 128 → F.pre passes x y }
     ensures pairs { (x y : ℕ) → x < 128 → y < 128 → (passed : Bool) × F.post passes x y passed × (in_row result.rows x y ≡ passed) }

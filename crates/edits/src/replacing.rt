@@ -163,8 +163,8 @@ fn asked_for(
     Ok(offer.asked())
 }
 
-// Puts the list in place of `a` to `b`, a block or one position, and says how much this saves. The new steps are tied in
-// their own order, as one block where they are several, and to the others as `a` to `b` was.
+/// Puts the list in place of `a` to `b`, a block or one position, and says how much this saves. The new steps are tied in
+/// their own order, as one block where they are several, and to the others as `a` to `b` was.
 pub fn replace<T: Tariff>(
     sheet: &mut Sheet,
     task: &Task,

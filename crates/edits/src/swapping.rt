@@ -136,8 +136,8 @@ impl<'s> Runs<'s> {
     }
 }
 
-// Makes the parts of `k - 1` and `k` change places, with their blocks and ties. Refused with `Position` unless both are
-// positions, and with `Tie` where `k - 1` is tied before `k`.
+/// Makes the parts of `k - 1` and `k` change places, with their blocks and ties. Refused with `Position` unless both are
+/// positions, and with `Tie` where `k - 1` is tied before `k`.
 pub fn swap(sheet: &mut Sheet, k: usize) -> Result<(), EditFault>
     ensures { Swaps sheet.old k result sheet.new }
 {

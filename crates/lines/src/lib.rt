@@ -11,8 +11,8 @@ ghost use Rattle.lines.specs.Writing.{Answers, Left, Put};
 pub use answer::{Reply, ShortBuffer};
 use itoa::Buffer;
 
-// Writes a plan's listing to the front of `out`, its price and then its steps, and returns its length.
-// A buffer that is too short is refused, and stays as it was.
+/// Writes a plan's listing to the front of `out`, its price and then its steps, and returns its length.
+/// A buffer that is too short is refused, and stays as it was.
 pub fn listing(price: u32, steps: &[u32], out: &mut [u8]) -> Result<usize, ShortBuffer>
     ensures { Answers (listing_text price steps.now) out.old result out.new }
 {
@@ -26,7 +26,7 @@ pub fn listing(price: u32, steps: &[u32], out: &mut [u8]) -> Result<usize, Short
     Ok(writer.at)
 }
 
-// Writes a reply to the front of `out`, and returns its length. A buffer that is too short is refused, and stays as it was.
+/// Writes a reply to the front of `out`, and returns its length. A buffer that is too short is refused, and stays as it was.
 pub fn reply(what: Reply, out: &mut [u8]) -> Result<usize, ShortBuffer>
     ensures { Answers (reply_text what) out.old result out.new }
 {

@@ -4,13 +4,14 @@ ghost use Rattle.records.specs.declared.fault.RecordFault.TheVariants.{Field};
 
 use text::FieldFault;
 
+/// Why the bytes of a line are no record.
 #[derive(Clone, Copy, Debug, PartialEq)]
 pub enum RecordFault {
-    // the text ends before the line does
+    /// the text ends before the line does
     Unended,
-    // no record begins so
+    /// no record begins so
     Word,
-    // a field behind the word is not of its form
+    /// a field behind the word is not of its form
     Field(FieldFault),
 }
 

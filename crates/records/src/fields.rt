@@ -8,25 +8,28 @@ ghost use Rattle.records.specs.Tabs.{◌·◌, FieldRead};
 
 use text::{FieldFault, cut, name, number, numbers};
 
+/// The name that the first field is, and the bytes behind its tab.
 pub fn name_field(bytes: &[u8]) -> Result<(&[u8], &[u8]), FieldFault>
     ensures { Exactly {A = List ℕ × List ℕ} result (λ p. (p.0.now, p.1.now)) AnyFault.Name (λ q. IsName q.0 × (bytes.now ≡ q.0 · q.1)) }
 {
     field(bytes, FieldFault::Name, |front| name(front))
 }
 
+/// The number that the first field is, and the bytes behind its tab.
 pub fn number_field(bytes: &[u8]) -> Result<(u32, &[u8]), FieldFault>
     ensures { Exactly {A = ℕ × List ℕ} result (λ p. (p.0, p.1.now)) AnyFault.Number (λ q. Small q.0 × (bytes.now ≡ decimal q.0 · q.1)) }
 {
     field(bytes, FieldFault::Number, |front| number(front))
 }
 
+/// The text of rising numbers that the first field is, and the bytes behind its tab.
 pub fn set_field(bytes: &[u8]) -> Result<(&[u8], &[u8]), FieldFault>
     ensures { Exactly {A = List ℕ × List ℕ} result (λ p. (p.0.now, p.1.now)) AnyFault.List (λ q. IsSetText q.0 × (bytes.now ≡ q.0 · q.1)) }
 {
     field(bytes, FieldFault::List, |front| set(front))
 }
 
-// The same bytes, if they are a set: a list that rises.
+/// The same bytes, if they are a set: a list that rises.
 pub fn set(bytes: &[u8]) -> Result<&[u8], FieldFault>
     ensures { Exactly result (λ s. s.now) AnyFault.List (λ bs. (bs ≡ bytes.now) × IsSetText bs) }
 {

@@ -82,7 +82,7 @@ fn record_of(word: Word, fields: &[u8]) -> Result<Record<'_>, FieldFault>
     }
 }
 
-// The record whose text the line is.
+/// The record whose text the line is.
 pub fn read_record(line: &[u8]) -> Result<Record<'_>, RecordFault>
     ensures { MatchResult result
         (λ x. (l : Line) × Proper l × (line.now ≡ text_of l) × Says x l)

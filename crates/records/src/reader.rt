@@ -6,7 +6,7 @@ use crate::line::read_record;
 use crate::record::Record;
 use text::cut;
 
-// What stands before `cursor` is read, and was `lines` lines. A cursor in a borrowed text is the form that the project asks for.
+/// What stands before `cursor` is read, and was `lines` lines. A cursor in a borrowed text is the form that the project asks for.
 #[derive(Clone, Copy)]
 pub struct Reader<'a> {
     book: &'a [u8],
@@ -19,6 +19,7 @@ pub struct Reader<'a> {
 impl<'a> Reader<'a> {
     ghost use Rattle.records.specs.Reading.{Next, unread};
 
+    /// A reader that stands at the first line.
     pub fn new(book: &'a [u8]) -> Self
         ensures text { unread result ≡ book.now }
         ensures line { result.lines ≡ 0 }
@@ -30,15 +31,15 @@ impl<'a> Reader<'a> {
         }
     }
 
-    // The number of the line that `next` reads, from 1.
+    /// The number of the line that `next` reads, from 1.
     pub fn line(&self) -> usize
         ensures { result ≡ self.now.lines + 1 }
     {
         self.lines + 1
     }
 
-    // The record of the next line, or nothing at the book's end; a line that is none stays unread: an iterator would have
-    // to end there.
+    /// The record of the next line, or nothing at the book's end; a line that is none stays unread: an iterator would have
+    /// to end there.
     pub fn next(&mut self) -> Result<Option<Record<'a>>, RecordFault>
         ensures { Next self.old result self.new }
     {

@@ -6,17 +6,28 @@ ghost use Rattle.records.specs.declared.word.Word.{Word as AnyWord};
 
 use crate::fault::RecordFault;
 
+/// The word that a line begins with.
 #[derive(Clone, Copy, PartialEq, Debug)]
 pub enum Word {
+    /// `fact`
     Fact,
+    /// `act`
     Act,
+    /// `start`
     Start,
+    /// `goal`
     Goal,
+    /// `step`
     Step,
+    /// `swap`
     Swap,
+    /// `group`
     Group,
+    /// `ungroup`
     Ungroup,
+    /// `loosen`
     Loosen,
+    /// `replace`
     Replace,
 }
 

@@ -4,7 +4,7 @@ ghost use Rattle.sets.specs.Member.{member, tally};
 ghost use Rattle.std.specs.Cmp.{on_per, partial_equiv_from_equiv};
 ghost use Rattle.std.specs.Cmp.Lexicographic.{pointwise, nat_list_eq_equiv};
 
-// Number i is a member where bit i % 64 of word i / 64 is set.
+/// Number i is a member where bit i % 64 of word i / 64 is set.
 #[derive(Clone, Copy, Eq)]
 pub struct BitSet<const W: usize> {
     words: [u64; W],
@@ -15,13 +15,14 @@ pub struct BitSet<const W: usize> {
 }
 
 impl<const W: usize> BitSet<W> {
+    /// A set with no member.
     pub fn empty() -> Self
         ensures { (i : ℕ) → member result.words i ≡ false }
     {
         BitSet { words: [0; W] }
     }
 
-    // The numbers below `k`, as far as there is room.
+    /// The numbers below `k`, as far as there is room.
     pub fn below(k: usize) -> Self
         ensures { (j : ℕ) → member result.words j ≡ (nat_lt j k && nat_lt j (64 * W)) }
     {
@@ -32,14 +33,14 @@ impl<const W: usize> BitSet<W> {
         BitSet { words }
     }
 
-    // The numbers from `first` on and below `end`, as far as there is room.
+    /// The numbers from `first` on and below `end`, as far as there is room.
     pub fn range(first: usize, end: usize) -> Self
         ensures { (j : ℕ) → member result.words j ≡ (nat_le first j && nat_lt j end && nat_lt j (64 * W)) }
     {
         BitSet::below(end).minus(&BitSet::below(first))
     }
 
-    // The numbers below `k` that pass, as far as there is room. A `filter` would have the same test and the same `insert`.
+    /// The numbers below `k` that pass, as far as there is room. A `filter` would have the same test and the same `insert`.
     pub fn below_where<F: Fn(usize) -> bool>(k: usize, passes: F) -> Self
         requires { (j : ℕ) → j < k → F.pre passes j }
         ensures test { (j : ℕ) → j < k → j < 64 * W → (passed : Bool) × F.post passes j passed × (member result.words j ≡ passed) }
@@ -54,13 +55,14 @@ impl<const W: usize> BitSet<W> {
         set
     }
 
+    /// Whether `i` is a member. A number without room is none.
     pub fn has(&self, i: usize) -> bool
         ensures { result ≡ member self.now.words i }
     {
         i / 64 < W && (self.words[i / 64] >> (i % 64)) & 1 == 1
     }
 
-    // Puts `i` in, and says whether there is room for it. By a bool: a number without room is no fault to any caller.
+    /// Puts `i` in, and says whether there is room for it. By a bool: a number without room is no fault to any caller.
     pub fn insert(&mut self, i: usize) -> bool
         ensures room { result ≡ nat_lt i (64 * W) }
         ensures members { (j : ℕ) → member self.new.words j ≡ (member self.old.words j || (j == i && nat_lt i (64 * W))) }
@@ -72,6 +74,7 @@ impl<const W: usize> BitSet<W> {
         has_room
     }
 
+    /// Takes `i` out; the set stays as it was where `i` is no member.
     pub fn remove(&mut self, i: usize)
         ensures { (j : ℕ) → member self.new.words j ≡ (member self.old.words j && not (j == i)) }
     {
@@ -80,6 +83,7 @@ impl<const W: usize> BitSet<W> {
         }
     }
 
+    /// The members of either set.
     pub fn union(&self, other: &Self) -> Self
         ensures { (i : ℕ) → member result.words i ≡ (member self.now.words i || member other.now.words i) }
     {
@@ -91,6 +95,7 @@ impl<const W: usize> BitSet<W> {
         }
     }
 
+    /// The members of both sets.
     pub fn intersection(&self, other: &Self) -> Self
         ensures { (i : ℕ) → member result.words i ≡ (member self.now.words i && member other.now.words i) }
     {
@@ -102,7 +107,7 @@ impl<const W: usize> BitSet<W> {
         }
     }
 
-    // The members that `other` does not have.
+    /// The members that `other` does not have.
     pub fn minus(&self, other: &Self) -> Self
         ensures { (i : ℕ) → member result.words i ≡ (member self.now.words i && not (member other.now.words i)) }
     {
@@ -114,6 +119,7 @@ impl<const W: usize> BitSet<W> {
         }
     }
 
+    /// The lowest member; none where the set is empty.
     pub fn lowest(&self) -> Option<usize>
         ensures { MatchOption result
             ((i : ℕ) → member self.now.words i ≡ false)
@@ -123,6 +129,7 @@ impl<const W: usize> BitSet<W> {
         Some(64 * i + self.words[i].trailing_zeros() as usize)
     }
 
+    /// The highest member; none where the set is empty.
     pub fn highest(&self) -> Option<usize>
         ensures { MatchOption result
             ((i : ℕ) → member self.now.words i ≡ false)
@@ -132,6 +139,7 @@ impl<const W: usize> BitSet<W> {
         Some(64 * i + self.words[i].ilog2() as usize)
     }
 
+    /// Whether there is no member.
     pub fn is_empty(&self) -> bool
         ensures { MatchBool result
             ((i : ℕ) → member self.now.words i ≡ false)
@@ -140,7 +148,7 @@ impl<const W: usize> BitSet<W> {
         self.lowest().is_none()
     }
 
-    // Whether the two sets have a member in common.
+    /// Whether the two sets have a member in common.
     pub fn meets(&self, other: &Self) -> bool
         ensures { MatchBool result
             ((i : ℕ) × ((member self.now.words i && member other.now.words i) ≡ true))
@@ -149,7 +157,7 @@ impl<const W: usize> BitSet<W> {
         !self.intersection(other).is_empty()
     }
 
-    // Whether every member of `other` is one of `self`.
+    /// Whether every member of `other` is one of `self`.
     pub fn contains_all(&self, other: &Self) -> bool
         ensures { MatchBool result
             ((i : ℕ) → member other.now.words i ≡ true → member self.now.words i ≡ true)
@@ -158,7 +166,7 @@ impl<const W: usize> BitSet<W> {
         other.minus(self).is_empty()
     }
 
-    // How many members there are, or the largest `usize` where every `usize` is one.
+    /// How many members there are, or the largest `usize` where every `usize` is one.
     pub fn count(&self) -> usize
         ensures { result ≡ min (tally (member self.now.words) (64 * W)) (2 ^ 64 - 1) }
     {

@@ -3,8 +3,8 @@ ghost use Rattle.std.specs.Prelude.{◌≡◌, ◌<◌, ◌≤◌, List, [], ◌
 
 use std::alloc::AllocError;
 
-// The elements are the first `len` of `items`; what stands behind them is not looked at. Nothing is allocated, as everywhere
-// below the programs, and a list is copied as a value, which the kit's list of this name is not.
+/// The elements are the first `len` of `items`; what stands behind them is not looked at. Nothing is allocated, as everywhere
+/// below the programs, and a list is copied as a value, which the kit's list of this name is not.
 pub struct ArrayVec<T, const N: usize> {
     items: [T; N],
     len: usize,
@@ -17,7 +17,7 @@ impl<T: Copy, const N: usize> ArrayVec<T, N> {
     ghost use Rattle.std.specs.List.{slice_get};
     ghost use Rattle.sets.specs.Contents.{contents};
 
-    // An empty list; `fill` only fills the room.
+    /// An empty list; `fill` only fills the room.
     pub fn new(fill: T) -> Self
         ensures { contents result ≡ [] }
     {
@@ -27,7 +27,7 @@ impl<T: Copy, const N: usize> ArrayVec<T, N> {
         }
     }
 
-    // The items that the iterator yields, as far as there is room; `fill` only fills it.
+    /// The items that the iterator yields, as far as there is room; `fill` only fills it.
     pub fn collect<I: Iterator<Item = T>>(fill: T, items: I) -> Self
         requires can { I.can_next items }
         requires finite { IsFinite (I.remaining items) }
@@ -40,31 +40,35 @@ impl<T: Copy, const N: usize> ArrayVec<T, N> {
         list
     }
 
+    /// How many elements there are.
     pub fn len(&self) -> usize
         ensures { result ≡ length (contents self.now) }
     {
         self.as_slice().len()
     }
 
+    /// Whether there is no element.
     pub fn is_empty(&self) -> bool
         ensures { result ≡ (length (contents self.now) == 0) }
     {
         self.len() == 0
     }
 
+    /// The element at place `i`, from 0; none past the last.
     pub fn get(&self, i: usize) -> Option<T>
         ensures { result ≡ slice_get (contents self.now) i }
     {
         self.as_slice().get(i).copied()
     }
 
+    /// The elements, first to last.
     pub fn as_slice(&self) -> &[T]
         ensures { result.now ≡ contents self.now }
     {
         &self.items[..self.len]
     }
 
-    // Puts `x` at the end, or hands it back where there is no room.
+    /// Puts `x` at the end, or hands it back where there is no room.
     pub fn push(&mut self, x: T) -> Result<(), T>
         ensures { MatchResult result
             (λ _. (length (contents self.old) < N) × (contents self.new ≡ contents self.old ++ x ∷ []))
@@ -79,6 +83,7 @@ impl<T: Copy, const N: usize> ArrayVec<T, N> {
         }
     }
 
+    /// Takes all elements out.
     pub fn clear(&mut self)
         ensures { contents self.new ≡ [] }
     {

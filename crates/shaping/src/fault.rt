@@ -7,26 +7,27 @@ ghost use Rattle.sets.specs.Contents.{contents};
 use sets::list::ArrayVec;
 use sheet::SheetFault;
 
+/// Why an edit is refused. The sheet is as it was then.
 #[derive(Clone, Copy, Debug, PartialEq, Eq)]
 pub enum EditFault {
-    // They are no positions in that order.
+    /// They are no positions in that order.
     Position,
-    // They are no block, or cannot become one.
+    /// They are no block, or cannot become one.
     Block,
-    // The one is not tied before the other.
+    /// The one is not tied before the other.
     Tie,
-    // A position outside both parts is tied between them.
+    /// A position outside both parts is tied between them.
     Between,
-    // There are no steps to put in.
+    /// There are no steps to put in.
     Empty,
-    // The new steps cost no less.
+    /// The new steps cost no less.
     NotCheaper,
-    // The sheet asked for is refused.
+    /// The sheet asked for is refused.
     Sheet(SheetFault),
 }
 
 impl EditFault {
-    // The number that the refusal goes by.
+    /// The number that the refusal goes by.
     pub fn number(&self) -> u32
         ensures { result ≡ number_of self.now }
     {
@@ -41,7 +42,7 @@ impl EditFault {
         }
     }
 
-    // What the refusal names, as the refusal of a sheet does.
+    /// What the refusal names, as the refusal of a sheet does.
     pub fn values(&self) -> ArrayVec<usize, 2>
         ensures { contents result ≡ values_of self.now }
     {

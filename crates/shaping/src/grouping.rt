@@ -72,8 +72,8 @@ impl Run<'_> {
     }
 }
 
-// Makes a block of `a` to `b`, and adds the ties that this takes, no more. Refused with `Position` unless `a` and `b` are
-// positions in that order, and with `Block` where they are a block already or some block crosses them.
+/// Makes a block of `a` to `b`, and adds the ties that this takes, no more. Refused with `Position` unless `a` and `b` are
+/// positions in that order, and with `Block` where they are a block already or some block crosses them.
 pub fn group(sheet: &mut Sheet, a: usize, b: usize) -> Result<(), EditFault>
     ensures { Groups sheet.old a b result sheet.new }
 {

@@ -79,9 +79,9 @@ impl<'s> Parts<'s> {
     }
 }
 
-// Drops all ties from the part of `i` to the part of `j`. Refused with `Position` unless `i` and `j` are positions in that
-// order, with `Tie` unless `i` is tied before `j`, with `Between` where a position outside both parts is tied behind `i`
-// and before `j`, and then as the check refuses the sheet asked for.
+/// Drops all ties from the part of `i` to the part of `j`. Refused with `Position` unless `i` and `j` are positions in that
+/// order, with `Tie` unless `i` is tied before `j`, with `Between` where a position outside both parts is tied behind `i`
+/// and before `j`, and then as the check refuses the sheet asked for.
 pub fn loosen(sheet: &mut Sheet, task: &Task, i: usize, j: usize) -> Result<(), EditFault>
     ensures { Loosens task.now sheet.old i j result sheet.new }
 {

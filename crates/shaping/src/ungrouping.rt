@@ -26,8 +26,8 @@ impl Run<'_> {
     }
 }
 
-// Ends the block `a` to `b` and keeps all ties. Refused with `Position` unless `a` and `b` are positions in that order,
-// with `Block` unless they are a block, and then as the check refuses the sheet asked for.
+/// Ends the block `a` to `b` and keeps all ties. Refused with `Position` unless `a` and `b` are positions in that order,
+/// with `Block` unless they are a block, and then as the check refuses the sheet asked for.
 pub fn ungroup(sheet: &mut Sheet, task: &Task, a: usize, b: usize) -> Result<(), EditFault>
     ensures { Ungroups task.now sheet.old a b result sheet.new }
 {

@@ -158,7 +158,7 @@ impl<'t, 's> Setting<'t, 's> {
     }
 }
 
-// Refuses the first of the numbers that is none of the task's actions.
+/// Refuses the first of the numbers that is none of the task's actions.
 pub fn check_actions(task: &Task, numbers: &[u32]) -> Result<(), SheetFault>
     ensures { ChecksActions task.now numbers.now result }
 {
@@ -169,7 +169,7 @@ pub fn check_actions(task: &Task, numbers: &[u32]) -> Result<(), SheetFault>
         .map_or(Ok(()), |number| Err(SheetFault::UnknownAction(number)))
 }
 
-// Refuses a sheet with an action that the task lacks, and then one that is wanting a fact.
+/// Refuses a sheet with an action that the task lacks, and then one that is wanting a fact.
 pub fn check(task: &Task, sheet: &Sheet) -> Result<(), SheetFault>
     ensures { Checks task.now sheet.now result }
 {

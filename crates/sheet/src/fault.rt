@@ -5,18 +5,19 @@ ghost use Rattle.sheet.specs.Faults.{number_of, values_of};
 
 use sets::list::ArrayVec;
 
+/// Why a plan or a sheet is refused.
 #[derive(Clone, Copy, Debug, PartialEq, Eq)]
 pub enum SheetFault {
-    // The task lacks this action.
+    /// The task lacks this action.
     UnknownAction(u32),
-    // In some running order the fact does not stand at the turn of the place, which needs it.
+    /// In some running order the fact does not stand at the turn of the place, which needs it.
     WantingFact { place: usize, fact: usize },
-    // More than 128 steps.
+    /// More than 128 steps.
     TooLong,
 }
 
 impl SheetFault {
-    // The number that the refusal goes by.
+    /// The number that the refusal goes by.
     pub fn number(&self) -> u32
         ensures { result ≡ number_of self.now }
     {
@@ -27,7 +28,7 @@ impl SheetFault {
         }
     }
 
-    // What the refusal names: the action, or the place and the fact.
+    /// What the refusal names: the action, or the place and the fact.
     pub fn values(&self) -> ArrayVec<usize, 2>
         ensures { contents result ≡ values_of self.now }
     {

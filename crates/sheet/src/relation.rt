@@ -7,7 +7,7 @@ ghost use Rattle.sheet.specs.Rows.{in_row};
 use crate::rows::{filled, row};
 use sets::bits::BitSet;
 
-// Row i has the positions that i is paired with.
+/// Row i has the positions that i is paired with.
 #[derive(Clone, Copy, PartialEq, Eq)]
 pub struct Relation {
     rows: [BitSet<2>; 128],
@@ -15,6 +15,7 @@ pub struct Relation {
 }
 
 impl Relation {
+    /// No position is paired with any.
     pub fn empty() -> Self
         ensures { (i j : ℕ) → in_row result.rows i j ≡ false }
     {
@@ -23,7 +24,7 @@ impl Relation {
         }
     }
 
-    // The relation whose row i is `row(i)`.
+    /// The relation whose row i is `row(i)`.
     pub fn by_rows<F: Fn(usize) -> BitSet<2>>(row: F) -> Self
         requires { (i : ℕ) → i < 128 → F.pre row i }
         ensures rows { (i : ℕ) → i < 128 → (set : Set 2) × F.post row i set × ((j : ℕ) → in_row result.rows i j ≡ member set.words j) }
@@ -34,20 +35,21 @@ impl Relation {
         }
     }
 
-    // What `i` is paired with: nothing where it is no position.
+    /// What `i` is paired with: nothing where it is no position.
     pub fn row(&self, i: usize) -> BitSet<2>
         ensures { (j : ℕ) → member result.words j ≡ in_row self.now.rows i j }
     {
         row(&self.rows, i)
     }
 
+    /// Whether `i` is paired with `j`; a number that is no position is paired with none.
     pub fn has(&self, i: usize, j: usize) -> bool
         ensures { result ≡ in_row self.now.rows i j }
     {
         self.row(i).has(j)
     }
 
-    // The same with `set` in place of row `i`, if there is such a row.
+    /// The same with `set` in place of row `i`, if there is such a row.
     pub fn with_row(&self, i: usize, set: &BitSet<2>) -> Self
         ensures { (k j : ℕ) → in_row result.rows k j ≡ cond (k == i && nat_lt i 128) (member set.now.words j) (in_row self.now.rows k j) }
     {

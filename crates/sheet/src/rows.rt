@@ -5,7 +5,7 @@ ghost use Rattle.sheet.specs.Rows.{in_row};
 
 use sets::bits::BitSet;
 
-// Row `i`, the empty set where there is none.
+/// Row `i`, the empty set where there is none.
 pub fn row<const W: usize>(rows: &[BitSet<W>], i: usize) -> BitSet<W>
     ensures { (j : ℕ) → member result.words j ≡ in_row rows.now i j }
 {

@@ -14,11 +14,11 @@ mod questions;
 
 pub use laying::lay;
 
-// The action numbers of a sheet's steps.
+/// The action numbers of a sheet's steps.
 pub type Steps = ArrayVec<u8, LONGEST_LIST>;
 
-// A step has an action number below 128. `behind` pairs i with the positions that it is tied before, and `blocks` the first
-// position of each block with its last.
+/// A step has an action number below 128. `behind` pairs i with the positions that it is tied before, and `blocks` the first
+/// position of each block with its last.
 #[derive(Clone, Copy, PartialEq, Eq)]
 pub struct Sheet {
     pub steps: Steps,

@@ -3,9 +3,10 @@ ghost use Rattle.std.specs.Prelude.{◌≡◌, ℕ, ◌<◌, ◌≤◌, false, M
 
 use sets::bits::BitSet;
 
-// A set of facts; a fact is a number from 0 to 63.
+/// A set of facts; a fact is a number from 0 to 63.
 pub type Facts = BitSet<1>;
 
+/// What can be done: the facts that it needs, adds and deletes, and its price, which is at most 1,000,000.
 #[derive(Clone, Copy)]
 pub struct Action {
     pub needs: Facts,
@@ -19,9 +20,10 @@ impl Action {
     ghost use Rattle.sets.specs.Member.{member};
     ghost use Rattle.task.specs.Perform.{after};
 
+    /// No action costs more.
     pub const HIGHEST_PRICE: u32 = 1_000_000;
 
-    // Needs nothing, changes nothing and costs nothing.
+    /// Needs nothing, changes nothing and costs nothing.
     pub fn idle() -> Action
         ensures facts { (f : ℕ) → (member result.needs.words f ≡ false) × (member result.adds.words f ≡ false) × (member result.deletes.words f ≡ false) }
         ensures price { result.price ≡ 0 }
@@ -35,7 +37,7 @@ impl Action {
         }
     }
 
-    // None exactly where the price is too high.
+    /// None exactly where the price is too high.
     pub fn new(needs: Facts, adds: Facts, deletes: Facts, price: u32) -> Option<Action>
         ensures { MatchOption result (1000000 < price)
             (λ a. (price ≤ 1000000) × (a.needs ≡ needs) × (a.adds ≡ adds) × (a.deletes ≡ deletes) × (a.price ≡ price)) }
@@ -53,7 +55,7 @@ impl Action {
         }
     }
 
-    // The facts that stand once the action is performed: a fact that it both deletes and adds is one of them.
+    /// The facts that stand once the action is performed: a fact that it both deletes and adds is one of them.
     pub fn perform(&self, standing: &Facts) -> Facts
         ensures { (f : ℕ) → member result.words f ≡ after self.now (member standing.now.words) f }
     {

@@ -7,26 +7,27 @@ ghost use Rattle.task.specs.Prices.{Lawful, priced, touches};
 use crate::actions::{Action, Facts};
 use crate::tasks::{LONGEST_LIST, Plan, Task};
 
-// A price for each action, by its number.
+/// A price for each action, by its number.
 pub trait Tariff {
-    // No price of this kind of tariff is higher.
+    /// No price of this kind of tariff is higher.
     const HIGHEST: u32;
 
     ghost highest: { ℕ };
 
     ghost prices: { Self → ℕ → ℕ };
 
+    /// The price of the action of that number; 0 for a number above 127.
     fn price(&self, action: u32) -> u32
         ensures { result ≡ prices self.now action };
 
-    // `HIGHEST`, tied to `highest` by a function: for a type that borrows, the constant itself cannot be.
+    /// `HIGHEST`, tied to `highest` by a function: for a type that borrows, the constant itself cannot be.
     fn most() -> u32
         ensures { result ≡ highest };
 
     ghost lawful: { (t : Self) → Lawful highest (prices t) };
 }
 
-// The prices that the task gives its actions.
+/// The prices that the task gives its actions.
 #[derive(Clone, Copy)]
 pub struct BookTariff<'a> {
     pub task: &'a Task,
@@ -52,7 +53,7 @@ impl Tariff for BookTariff<'_> {
     }
 }
 
-// An action costs as many as it adds or deletes of the marked facts.
+/// An action costs as many as it adds or deletes of the marked facts.
 #[derive(Clone, Copy)]
 pub struct TouchTariff<'a> {
     pub task: &'a Task,
@@ -83,13 +84,14 @@ impl Tariff for TouchTariff<'_> {
     }
 }
 
-// The refusal of a list with more entries than a plan can have.
+/// The refusal of a list with more entries than a plan can have.
 #[derive(Clone, Copy, Debug, PartialEq, Eq)]
 pub struct TooLong;
 
 impl TooLong {
     const NUMBER: u32 = 4;
 
+    /// The number that the refusal goes by: 4.
     pub fn number(&self) -> u32
         ensures { result ≡ 4 }
     {
@@ -97,7 +99,7 @@ impl TooLong {
     }
 }
 
-// The sum of the prices of the plan's actions, each as often as it stands there.
+/// The sum of the prices of the plan's actions, each as often as it stands there.
 pub fn price_of_plan<T: Tariff>(tariff: &T, plan: &Plan) -> u32
     ensures { result ≡ sum_by (T.Tariff.prices tariff.now) (contents plan.now) }
 {
@@ -108,7 +110,7 @@ pub fn price_of_plan<T: Tariff>(tariff: &T, plan: &Plan) -> u32
     sum
 }
 
-// The same for a list, which may be longer than any plan.
+/// The same for a list, which may be longer than any plan.
 pub fn price_of_list<T: Tariff>(tariff: &T, list: &[u32]) -> Result<u32, TooLong>
     ensures { MatchResult result
         (λ sum. (length list.now ≤ 128) × (sum ≡ sum_by (T.Tariff.prices tariff.now) list.now))

@@ -7,17 +7,17 @@ ghost use Rattle.sets.specs.Member.{member};
 use crate::actions::{Action, Facts};
 use sets::list::ArrayVec;
 
-// A plan has at most so many steps, and a list of actions so many entries.
+/// A plan has at most so many steps, and a list of actions so many entries.
 pub const LONGEST_LIST: usize = 128;
 
-// The actions to perform, first to last, by their numbers.
+/// The actions to perform, first to last, by their numbers.
 pub type Plan = ArrayVec<u32, LONGEST_LIST>;
 
-// No room for one more.
+/// No room for one more.
 #[derive(Clone, Copy, Debug, PartialEq, Eq)]
 pub struct Full;
 
-// The facts are the numbers below `facts`; the number of an action is its place among the actions.
+/// The facts are the numbers below `facts`; the number of an action is its place among the actions.
 #[derive(Drop)]
 pub struct Task {
     pub facts: usize,
@@ -28,9 +28,10 @@ pub struct Task {
 }
 
 impl Task {
+    /// No task has more facts.
     pub const MOST_FACTS: usize = 64;
 
-    // No facts, no actions, nothing at the start and nothing to reach.
+    /// No facts, no actions, nothing at the start and nothing to reach.
     pub fn new() -> Self
         ensures facts { result.facts ≡ 0 }
         ensures actions { contents result.actions ≡ [] }
@@ -46,14 +47,14 @@ impl Task {
         }
     }
 
-    // The action of that number; None where the task has no such action.
+    /// The action of that number; None where the task has no such action.
     pub fn action(&self, number: u32) -> Option<Action>
         ensures { result ≡ slice_get (contents self.now.actions) number }
     {
         self.actions.get(number as usize)
     }
 
-    // One more fact, unless there are 64.
+    /// One more fact, unless there are 64.
     pub fn add_fact(&mut self) -> Result<(), Full>
         ensures facts { MatchResult result
             (λ _. (self.old.facts < 64) × (self.new.facts ≡ self.old.facts + 1))
@@ -69,7 +70,7 @@ impl Task {
         Ok(())
     }
 
-    // One more action, behind the others, unless there are 128.
+    /// One more action, behind the others, unless there are 128.
     pub fn add_action(&mut self, action: Action) -> Result<(), Full>
         ensures actions { MatchResult result
             (λ _. (length (contents self.old.actions) < 128) × (contents self.new.actions ≡ contents self.old.actions ++ action ∷ []))

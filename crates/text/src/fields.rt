@@ -8,7 +8,7 @@ const MOST_DIGITS: usize = 7;
 
 const LONGEST_NAME: usize = 40;
 
-// The number that `bytes` writes. A text that is too long is refused unread.
+/// The number that `bytes` writes. A text that is too long is refused unread.
 pub fn number(bytes: &[u8]) -> Result<u32, FieldFault>
     ensures { Exactly result (λ n. n) FieldFault.Number (IsNumber bytes.now) }
 {
@@ -20,7 +20,7 @@ pub fn number(bytes: &[u8]) -> Result<u32, FieldFault>
     u32::from_str_radix(text, 10).map_err(|_| FieldFault::Number)
 }
 
-// The same bytes, if they are a name. A text that is too long is refused unread.
+/// The same bytes, if they are a name. A text that is too long is refused unread.
 pub fn name(bytes: &[u8]) -> Result<&[u8], FieldFault>
     ensures { Exactly result (λ s. s.now) FieldFault.Name (λ bs. (bs ≡ bytes.now) × IsName bs) }
 {

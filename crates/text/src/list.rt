@@ -6,7 +6,7 @@ use crate::fault::FieldFault;
 use crate::fields::number;
 use crate::parts::cut;
 
-// Reads the numbers of a list one by one.
+/// Reads the numbers of a list one by one.
 #[derive(Drop)]
 pub struct Entries<'a> {
     // What starts with the next number; nothing where none is left.
@@ -14,7 +14,7 @@ pub struct Entries<'a> {
 }
 
 impl<'a> Entries<'a> {
-    // What is left at first is the list that `text` is, if it is one.
+    /// What is left at first is the list that `text` is, if it is one.
     pub fn new(text: &'a [u8]) -> Self
         ensures { (ns : List ℕ) → Left result ns ↔ IsList text.now ns }
     {
@@ -24,7 +24,7 @@ impl<'a> Entries<'a> {
         }
     }
 
-    // The next number, if one is left. What is no list is refused, and stays as it is: an iterator would have to end there.
+    /// The next number, if one is left. What is no list is refused, and stays as it is: an iterator would have to end there.
     pub fn next(&mut self) -> Result<Option<u32>, FieldFault>
         ensures { NextGives self.old result self.new }
     {
@@ -49,7 +49,7 @@ impl<'a> Entries<'a> {
     }
 }
 
-// The same bytes, if they are a list of numbers, which has to rise where `rising` says so.
+/// The same bytes, if they are a list of numbers, which has to rise where `rising` says so.
 pub fn numbers(text: &[u8], rising: bool) -> Result<&[u8], FieldFault>
     ensures { Exactly result (λ s. s.now) FieldFault.List (λ bs. (bs ≡ text.now) × ((ns : List ℕ) × IsNumbers rising ns × (bs ≡ commas ns))) }
 {

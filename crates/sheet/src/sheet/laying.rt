@@ -13,7 +13,7 @@ use crate::relation::Relation;
 use sets::bits::BitSet;
 use task::{LONGEST_LIST, Task};
 
-// Refuses more than 128 steps, and then what the check refuses. The sheet has the plan's steps, all ties and no block.
+/// Refuses more than 128 steps, and then what the check refuses. The sheet has the plan's steps, all ties and no block.
 pub fn lay(task: &Task, plan: &[u32]) -> Result<Sheet, SheetFault>
     ensures { Lays task.now plan.now result }
 {

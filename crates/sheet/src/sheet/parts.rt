@@ -11,8 +11,8 @@ use sets::bits::BitSet;
 impl Sheet {
     // Positions are asked about two by two, here and below: a type for such a pair would be taken apart at once.
 
-    // The first and last position of the part of `i` against `j`: of the largest step or block that has `i` and not `j`.
-    // None unless both are positions and not the same.
+    /// The first and last position of the part of `i` against `j`: of the largest step or block that has `i` and not `j`.
+    /// None unless both are positions and not the same.
     pub fn part(&self, i: usize, j: usize) -> Option<(usize, usize)>
         ensures { MatchOption result
             (((outline self.now).size ≤ i) ⊎ (((outline self.now).size ≤ j) ⊎ (i ≡ j)))
@@ -42,7 +42,7 @@ impl Sheet {
         (i, i)
     }
 
-    // The positions of the part of `i` against `j`.
+    /// The positions of the part of `i` against `j`.
     pub fn part_mask(&self, i: usize, j: usize) -> BitSet<2>
         ensures { (x : ℕ) → member result.words x ≡ (together (outline self.now) x i j && nat_lt x (outline self.now).size) }
     {
@@ -53,7 +53,7 @@ impl Sheet {
         BitSet::range(first, last + 1)
     }
 
-    // The positions tied before `p`: all of them for the place after the last step.
+    /// The positions tied before `p`: all of them for the place after the last step.
     pub fn ahead(&self, p: usize) -> BitSet<2>
         ensures { (x : ℕ) → member result.words x ≡ leads (outline self.now) x p }
     {
