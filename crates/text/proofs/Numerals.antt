@@ -1,15 +1,20 @@
 -- Which texts are numbers, byte by byte.
-use Rattle.std.proofs.Common.{◌≡◌, ◌≢◌, ℕ, ◌<◌, ◌≤◌, List, length, get_or, decimal, Ok, Err, Result, MatchResult, sym, ap, ◌∙◌, ⊎_elim, arith}
-use Rattle.std.specs.Str.Parse.{AllDigits, ParsesUnsigned, digits_value}
+use Rattle.std.proofs.Common.{◌≡◌, ℕ, ◌-◌, ◌<◌, ◌≤◌, List, length, get_or, decimal, sym, ap, ◌∙◌, ⊎_elim, arith}
+use Rattle.std.specs.Str.Parse.{AllDigits, digits_value}
 use Rattle.std.specs.Int.{IsInRange}
+use Rattle.std.specs.Char.{digit_value as digitValue}
 use Rattle.std.proofs.lemmas.Fmt.{decimal_digit, decimal_nonempty, decimal-digits_value, digits_decimal, first_decimal, length-decimal-le, decimal_injective}
 use Rattle.std.proofs.ByRecursion.{All-from_get_or, All-weaker}
-use Rattle.std.proofs.lemmas.Str.Parse.{IsNumeralModel, not_in_digits, numerals_by_value, parse_plain, tells_digits, digits_value_short}
+use Rattle.std.proofs.lemmas.Str.Parse.{IsNumeralModel, not_in_digits, numerals_by_value, tells_digits, digits_value_short}
 use Rattle.std.proofs.lemmas.Bool.{cases_eq}
+use Rattle.std.proofs.lemmas.Bool.Decides.{nat_tests}
 use Rattle.text.specs.Fields.{IsName, IsNumber, Lacks, Printable, Small}
 
 pub numerals : IsNumeralModel (AllDigits 10) (digits_value 10)
 numerals = numerals_by_value (AllDigits 10) tells_digits
+
+pub digit_value : (c : ℕ) → IsInRange 48 57 c → digitValue c ≡ c - 48
+digit_value c h = grind (arith, nat_tests)
 
 -- what a number's text looks like
 pub record Figures (bs : List ℕ) : Type 0 where
@@ -26,14 +31,10 @@ figures bs n h = rw h.1 (record {
   digits = digits_decimal numerals n (omega arith);
 })
 
--- what `parse` reads of a short text with no sign and no needless zero is the number that the text writes
-pub parsed : {E : Type 0} (bs : List ℕ) (r : Result ℕ E) → ParsesUnsigned 32 10 bs r → length bs ≤ 7 → get_or bs 0 0 ≢ 43 → (get_or bs 0 0 ≡ 48 → length bs ≡ 1) → MatchResult r (IsNumber bs) (λ _. (n : ℕ) → IsNumber bs n → ⊥)
-parsed {E = E} bs (Ok x) p few plain leading =
-    let q = parse_plain numerals {E = E} 32 bs (Ok x) p plain in
-    rw q.1 (digits_value_short numerals bs 7 q.0.0 few, sym (decimal-digits_value numerals bs q.0.0 q.0.1 leading (omega arith)))
-parsed {E = E} bs (Err e) p few plain leading = λ n h.
-    let f = figures bs n h in
-    parse_plain numerals {E = E} 32 bs (Err e) p plain (f.digits, f.some, omega (arith, digits_value_short numerals bs 7 f.digits few))
+pub number_from_figures : (bs : List ℕ) → Figures bs → IsNumber bs (digits_value 10 bs)
+number_from_figures bs f =
+    let short = digits_value_short numerals bs 7 f.digits f.few in
+    (short, sym (decimal-digits_value numerals bs f.digits f.some f.leading (omega arith)))
 
 -- a byte that is no digit stands in no number
 pub decimal_lacks : (c n : ℕ) → (IsInRange 48 57 c → ⊥) → Small n → Lacks c (decimal n)

@@ -12,12 +12,18 @@ const LONGEST_NAME: usize = 40;
 pub fn number(bytes: &[u8]) -> Result<u32, FieldFault>
     ensures { Exactly result (λ n. n) FieldFault.Number (IsNumber bytes.now) }
 {
-    // `from_str_radix` takes a sign and leading zeros too.
     if bytes.len() > MOST_DIGITS || !matches!(bytes, [b'0'] | [b'1'..=b'9', ..]) {
         return Err(FieldFault::Number);
     }
-    let text = str::from_utf8(bytes).map_err(|_| FieldFault::Number)?;
-    u32::from_str_radix(text, 10).map_err(|_| FieldFault::Number)
+    // By a loop: `from_str_radix` wants a `&str`, and with the check that makes one it takes three times as long.
+    let mut value = 0;
+    for &b in bytes {
+        if !b.is_ascii_digit() {
+            return Err(FieldFault::Number);
+        }
+        value = value * 10 + u32::from(b - b'0');
+    }
+    Ok(value)
 }
 
 /// The same bytes, if they are a name. A text that is too long is refused unread.

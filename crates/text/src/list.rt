@@ -6,6 +6,9 @@ use crate::fault::FieldFault;
 use crate::fields::number;
 use crate::parts::cut;
 
+// How a list without entries is written.
+const NO_ENTRIES: &[u8] = b"-";
+
 /// Reads the numbers of a list one by one.
 #[derive(Drop)]
 pub struct Entries<'a> {
@@ -19,7 +22,7 @@ impl<'a> Entries<'a> {
         ensures { (ns : List ℕ) → Left result ns ↔ IsList text.now ns }
     {
         match text {
-            b"-" => Entries { rest: None },
+            NO_ENTRIES => Entries { rest: None },
             _ => Entries { rest: Some(text) },
         }
     }
