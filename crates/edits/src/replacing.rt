@@ -8,7 +8,7 @@ ghost use Rattle.sheet.specs.Verdicts.{ChecksActions};
 
 use crate::pairs::rows_of;
 use shaping::{EditFault, adopt};
-use sheet::{Sheet, SheetFault, Steps, check_actions};
+use sheet::{Sheet, SheetFault, Steps, check_actions, check_steps};
 use task::{LONGEST_LIST, Tariff, Task};
 
 // A list of actions that comes in place of `first` to `last` of a sheet, which has room for it. Its methods ask for numbers
@@ -124,7 +124,7 @@ impl<'s> Offer<'s> {
 fn known_asked(task: &Task, sheet: &Sheet, list: &[u32]) -> Result<(), SheetFault>
     ensures { ChecksActions task.now (actions sheet.now ++ list.now) result }
 {
-    check_actions(task, sheet.numbers().as_slice())?;
+    check_steps(task, sheet)?;
     check_actions(task, list)
 }
 

@@ -56,9 +56,16 @@ module _ {W : ℕ} where
   row_lt (r ∷ rows) (suc i) j e = row_lt rows i j e
 
   -- the rows of entries that are made
-  pub rows_made : (Gives : ℕ → BitSet W → Type 0) (rows : List (BitSet W)) (n : ℕ) → length rows ≡ n → ((i : ℕ) → i < n → (s : BitSet W) × Gives i s × ((d : BitSet W) → get_or rows i d ≡ s)) → (i : ℕ) → i < n → (s : BitSet W) × Gives i s × ((j : ℕ) → in_row rows i j ≡ member s.words j)
+  pub rows_made : (Gives : ℕ → BitSet W → Type 0) (rows : List (BitSet W)) (n : ℕ) → n ≤ length rows → ((i : ℕ) → i < n → (s : BitSet W) × Gives i s × ((d : BitSet W) → get_or rows i d ≡ s)) → (i : ℕ) → i < n → (s : BitSet W) × Gives i s × ((j : ℕ) → in_row rows i j ≡ member s.words j)
   rows_made Gives rows n size made i l =
       let m = made i l in (m.0, m.1, λ j. row-get_or rows i m.0 (omega arith) j ∙ ap (λ (s : BitSet W). member s.words j) (m.2 m.0))
+
+  -- and those behind them, in each of which stands one set that has nothing
+  pub rows_behind : (rows : List (BitSet W)) (n : ℕ) (r : BitSet W) → ((i : ℕ) → n ≤ i → i < length rows → (d : BitSet W) → get_or rows i d ≡ r) → ((j : ℕ) → member r.words j ≡ false) → (i j : ℕ) → n ≤ i → in_row rows i j ≡ false
+  rows_behind rows n r rest nothing i j l = ⊎_elim
+      (λ m. row-get_or rows i r m j ∙ ap (λ (s : BitSet W). member s.words j) (rest i l m r) ∙ nothing j)
+      (λ m. row_past rows i m j)
+      (cases_lt i (length rows))
 
   -- rows that are made as a test says, where it wants nothing past them
   pub made_is : (Gives : ℕ → BitSet W → Type 0) (test : ℕ → ℕ → Bool) (rows : List (BitSet W)) (n : ℕ) → ((i : ℕ) → i < n → (s : BitSet W) × Gives i s × ((j : ℕ) → in_row rows i j ≡ member s.words j)) → ((i j : ℕ) → n ≤ i → in_row rows i j ≡ false) → ((i : ℕ) (s : BitSet W) → i < n → Gives i s → (j : ℕ) → member s.words j ≡ test i j) → ((i j : ℕ) → n ≤ i → test i j ≡ false) → (i j : ℕ) → in_row rows i j ≡ test i j
@@ -67,8 +74,8 @@ module _ {W : ℕ} where
       (λ l. past i j l ∙ sym (none i j l))
       (cases_lt i n)
 
-  pub filled_is : (Gives : ℕ → BitSet W → Type 0) (test : ℕ → ℕ → Bool) (rows : List (BitSet W)) (n : ℕ) → length rows ≡ n → ((i : ℕ) → i < n → (s : BitSet W) × Gives i s × ((d : BitSet W) → get_or rows i d ≡ s)) → ((i : ℕ) (s : BitSet W) → i < n → Gives i s → (j : ℕ) → member s.words j ≡ test i j) → ((i j : ℕ) → n ≤ i → test i j ≡ false) → (i j : ℕ) → in_row rows i j ≡ test i j
-  filled_is Gives test rows n size made = made_is Gives test rows n (rows_made Gives rows n size made) (λ i j l. row_past rows i (omega arith) j)
+  pub filled_is : (Gives : ℕ → BitSet W → Type 0) (test : ℕ → ℕ → Bool) (rows : List (BitSet W)) (n : ℕ) (r : BitSet W) → n ≤ length rows → ((i : ℕ) → i < n → (s : BitSet W) × Gives i s × ((d : BitSet W) → get_or rows i d ≡ s)) → ((i : ℕ) → n ≤ i → i < length rows → (d : BitSet W) → get_or rows i d ≡ r) → ((j : ℕ) → member r.words j ≡ false) → ((i : ℕ) (s : BitSet W) → i < n → Gives i s → (j : ℕ) → member s.words j ≡ test i j) → ((i j : ℕ) → n ≤ i → test i j ≡ false) → (i j : ℕ) → in_row rows i j ≡ test i j
+  filled_is Gives test rows n r size made rest nothing = made_is Gives test rows n (rows_made Gives rows n size made) (rows_behind rows n r rest nothing)
 
   -- a row is written, and the others stay
   pub row_set : (rows : List (BitSet W)) (i : ℕ) (r : BitSet W) → i < length rows → (k j : ℕ) → in_row (set rows i r) k j ≡ cond (eqb k i) (member r.words j) (in_row rows k j)

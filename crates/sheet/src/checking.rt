@@ -1,11 +1,12 @@
 // The check: whether in every running order each step finds the facts that it needs, and the goal is reached.
-ghost use Rattle.std.specs.Prelude.{◌≡◌, ℕ, ◌<◌, ◌&&◌, MatchResult};
+ghost use Rattle.std.specs.Iterator.{AlwaysYields, IsFinite};
+ghost use Rattle.std.specs.Prelude.{◌≡◌, ℕ, ◌<◌, ◌&&◌, List, MatchResult};
 ghost use Rattle.orders.specs.Check.{leads, missing, some_below, taken_by, takes as takes_down};
 ghost use Rattle.orders.specs.Facts.{Good, needed as needed_there};
 ghost use Rattle.sets.specs.Member.{member};
 ghost use Rattle.sheet.specs.Masks.{IsTable};
 ghost use Rattle.sheet.specs.Rows.{in_row};
-ghost use Rattle.sheet.specs.Sheets.{outline};
+ghost use Rattle.sheet.specs.Sheets.{actions, outline};
 ghost use Rattle.sheet.specs.Verdicts.{Checks, ChecksActions, LowestWanting, effects as effects_under};
 ghost use Rattle.sheet.specs.declared.fault.SheetFault.TheVariants.{WantingFact};
 
@@ -89,10 +90,11 @@ impl<'t, 's> Setting<'t, 's> {
     fn of(effects: &Effects<'t, 's>) -> Self
         ensures { result.effects ≡ effects.now }
     {
+        let steps = effects.sheet.steps();
         Setting {
             effects: *effects,
-            adds: filled(Facts::empty(), |p| effects.added(p)),
-            takes: filled(Facts::empty(), |p| effects.taken_down(p)),
+            adds: filled(Facts::empty(), steps, |p| effects.added(p)),
+            takes: filled(Facts::empty(), steps, |p| effects.taken_down(p)),
         }
     }
 
@@ -158,21 +160,35 @@ impl<'t, 's> Setting<'t, 's> {
     }
 }
 
+// Refuses the first of the numbers that is none of the task's actions, and asks for none behind it.
+fn check_numbers<I: Iterator<Item = u32>>(task: &Task, mut numbers: I) -> Result<(), SheetFault>
+    requires can { I.can_next numbers }
+    requires finite { IsFinite (I.remaining numbers) }
+    ensures { (all : List ℕ) → AlwaysYields I.next_gives (λ x. x) numbers all → ChecksActions task.now all result }
+{
+    numbers
+        .find(|number| task.action(*number).is_none())
+        .map_or(Ok(()), |number| Err(SheetFault::UnknownAction(number)))
+}
+
 /// Refuses the first of the numbers that is none of the task's actions.
 pub fn check_actions(task: &Task, numbers: &[u32]) -> Result<(), SheetFault>
     ensures { ChecksActions task.now numbers.now result }
 {
-    numbers
-        .iter()
-        .copied()
-        .find(|number| task.action(*number).is_none())
-        .map_or(Ok(()), |number| Err(SheetFault::UnknownAction(number)))
+    check_numbers(task, numbers.iter().copied())
+}
+
+/// The same for the actions of a sheet's steps.
+pub fn check_steps(task: &Task, sheet: &Sheet) -> Result<(), SheetFault>
+    ensures { ChecksActions task.now (actions sheet.now) result }
+{
+    check_numbers(task, sheet.actions().iter().copied().map(u32::from))
 }
 
 /// Refuses a sheet with an action that the task lacks, and then one that is wanting a fact.
 pub fn check(task: &Task, sheet: &Sheet) -> Result<(), SheetFault>
     ensures { Checks task.now sheet.now result }
 {
-    check_actions(task, sheet.numbers().as_slice())?;
+    check_steps(task, sheet)?;
     Setting::of(&Effects { task, sheet }).check_places()
 }

@@ -8,7 +8,7 @@ mod relation;
 mod rows;
 mod sheet;
 
-pub use checking::{check, check_actions};
+pub use checking::{check, check_actions, check_steps};
 pub use fault::SheetFault;
 pub use relation::Relation;
 pub use rows::row;

@@ -30,8 +30,18 @@ impl Relation {
         ensures rows { (i : ℕ) → i < 128 → (set : Set 2) × F.post row i set × ((j : ℕ) → in_row result.rows i j ≡ member set.words j) }
         ensures past { (i j : ℕ) → 128 ≤ i → in_row result.rows i j ≡ false }
     {
+        Relation::by_first_rows(128, row)
+    }
+
+    // The same for the rows below `count`; those behind them have nothing.
+    pub(crate) fn by_first_rows<F: Fn(usize) -> BitSet<2>>(count: usize, row: F) -> Self
+        requires few { count ≤ 128 }
+        requires can { (i : ℕ) → i < count → F.pre row i }
+        ensures rows { (i : ℕ) → i < count → (set : Set 2) × F.post row i set × ((j : ℕ) → in_row result.rows i j ≡ member set.words j) }
+        ensures past { (i j : ℕ) → count ≤ i → in_row result.rows i j ≡ false }
+    {
         Relation {
-            rows: filled(BitSet::empty(), row),
+            rows: filled(BitSet::empty(), count, row),
         }
     }
 

@@ -1,5 +1,5 @@
 // Arrays of 128 entries, and sets in rows.
-ghost use Rattle.std.specs.Prelude.{◌≡◌, ℕ, ◌<◌, length, slice_index_or};
+ghost use Rattle.std.specs.Prelude.{◌≡◌, ℕ, ◌<◌, ◌≤◌, length, slice_index_or};
 ghost use Rattle.sets.specs.Member.{member};
 ghost use Rattle.sheet.specs.Rows.{in_row};
 
@@ -12,15 +12,19 @@ pub fn row<const W: usize>(rows: &[BitSet<W>], i: usize) -> BitSet<W>
     rows.get(i).copied().unwrap_or(BitSet::empty())
 }
 
-// Entry i is what `entry(i)` answers; `fill` stands in an entry until then. With `array::from_fn` the promise stayed open.
-pub(crate) fn filled<T: Copy, F: Fn(usize) -> T>(fill: T, entry: F) -> [T; 128]
-    requires { (i : ℕ) → i < 128 → F.pre entry i }
+// The first `count` entries are what `entry` answers for them, and `fill` stands in the others. With `array::from_fn` the
+// promise stayed open.
+pub(crate) fn filled<T: Copy, F: Fn(usize) -> T>(fill: T, count: usize, entry: F) -> [T; 128]
+    requires few { count ≤ 128 }
+    requires can { (i : ℕ) → i < count → F.pre entry i }
     ensures size { length result ≡ 128 }
-    ensures entries { (i : ℕ) → i < 128 → (x : T) × F.post entry i x × ((d : T) → slice_index_or result i d ≡ x) }
+    ensures entries { (i : ℕ) → i < count → (x : T) × F.post entry i x × ((d : T) → slice_index_or result i d ≡ x) }
+    ensures rest { (i : ℕ) → count ≤ i → i < 128 → (d : T) → slice_index_or result i d ≡ fill }
 {
     let mut entries = [fill; 128];
-    for (i, place) in entries.iter_mut().enumerate() {
-        *place = entry(i);
+    // By an index: of a part of an array that is written through, no promise is found.
+    for i in 0..count {
+        entries[i] = entry(i);
     }
     entries
 }

@@ -1,5 +1,6 @@
 // Tariffs: prices of actions by their numbers, and the price of a list of actions.
-ghost use Rattle.std.specs.Prelude.{◌≡◌, ℕ, ◌<◌, ◌≤◌, length, sum_by, MatchResult};
+ghost use Rattle.std.specs.Iterator.{AlwaysYields, IsFinite};
+ghost use Rattle.std.specs.Prelude.{◌≡◌, ℕ, ◌%◌, ◌^◌, ◌<◌, ◌≤◌, List, length, sum_by, MatchResult};
 ghost use Rattle.sets.specs.Contents.{contents};
 ghost use Rattle.task.specs.Lawful.{book_lawful, touch_lawful};
 ghost use Rattle.task.specs.Prices.{Lawful, priced, touches};
@@ -99,15 +100,26 @@ impl TooLong {
     }
 }
 
+/// The sum of the prices of the actions whose numbers come, each as often as it comes, without the multiples of 2^32 that it
+/// has; 128 actions cost less than one.
+pub fn price_of<T: Tariff, I: Iterator<Item = u32>>(tariff: &T, actions: I) -> u32
+    requires can { I.can_next actions }
+    requires finite { IsFinite (I.remaining actions) }
+    ensures { (all : List ℕ) → AlwaysYields I.next_gives (λ x. x) actions all →
+        result ≡ sum_by (T.Tariff.prices tariff.now) all % 2 ^ 32 }
+{
+    let mut sum: u32 = 0;
+    for action in actions {
+        sum = sum.wrapping_add(tariff.price(action));
+    }
+    sum
+}
+
 /// The sum of the prices of the plan's actions, each as often as it stands there.
 pub fn price_of_plan<T: Tariff>(tariff: &T, plan: &Plan) -> u32
     ensures { result ≡ sum_by (T.Tariff.prices tariff.now) (contents plan.now) }
 {
-    let mut sum = 0;
-    for action in plan.as_slice() {
-        sum += tariff.price(*action);
-    }
-    sum
+    price_of(tariff, plan.as_slice().iter().copied())
 }
 
 /// The same for a list, which may be longer than any plan.
@@ -119,5 +131,5 @@ pub fn price_of_list<T: Tariff>(tariff: &T, list: &[u32]) -> Result<u32, TooLong
     if list.len() > LONGEST_LIST {
         return Err(TooLong);
     }
-    Ok(price_of_plan(tariff, &Plan::collect(0, list.iter().copied())))
+    Ok(price_of(tariff, list.iter().copied()))
 }

@@ -42,7 +42,7 @@ fn all_ties(n: usize) -> Relation
     requires { n ≤ 128 }
     ensures { (i j : ℕ) → in_row result.rows i j ≡ (nat_lt i j && nat_lt j n) }
 {
-    Relation::by_rows(|i| BitSet::range(i + 1, n))
+    Relation::by_first_rows(n, |i| BitSet::range(i + 1, n))
 }
 
 // Each step tied before all later ones.

@@ -5,7 +5,7 @@ ghost use Rattle.sets.specs.Contents.{contents};
 ghost use Rattle.sheet.specs.Sheets.{actions, outline};
 
 use super::Sheet;
-use task::{Plan, Tariff, price_of_plan};
+use task::{Plan, Tariff, price_of};
 
 impl Sheet {
     /// How many steps there are.
@@ -54,6 +54,6 @@ impl Sheet {
     pub fn price<T: Tariff>(&self, tariff: &T) -> u32
         ensures { result ≡ sum_by (T.Tariff.prices tariff.now) (actions self.now) }
     {
-        price_of_plan(tariff, &self.numbers())
+        price_of(tariff, self.actions().iter().copied().map(u32::from))
     }
 }

@@ -5,5 +5,5 @@ use Rattle.sheet.proofs.sheet.laying.all_ties.Goals as goal
 
 pub returns : goal.returns
 returns c =
-    made_is _ (λ i j. ltb i j && ltb j c.args.n) c.by_rows.result.rows 128 c.by_rows.ensures.rows c.by_rows.ensures.past
+    made_is _ (λ i j. ltb i j && ltb j c.args.n) c.by_first_rows.result.rows c.args.n c.by_first_rows.ensures.rows c.by_first_rows.ensures.past
     (λ i set l made j. search rules) (λ i j l. grind (arith, nat_tests))
