@@ -92,14 +92,15 @@ pub struct Orders<'a> {
 
 impl<'a> Orders<'a> {
     pub fn of(model: &'a Model) -> Self {
-        let every = every_order(model.steps());
-        let permitted = every
-            .as_slice()
-            .iter()
-            .filter(|order| order.is_permitted(model));
+        let n = model.steps();
+        // Not by `every_order`: a second list of 720 orders for each sheet would be filled for nothing.
+        let every = (0..factorial(n)).map(|index| Order::at(index, n));
         Orders {
             model,
-            all: ArrayVec::collect(Order::empty(), permitted.copied()),
+            all: ArrayVec::collect(
+                Order::empty(),
+                every.filter(|order| order.is_permitted(model)),
+            ),
         }
     }
 }
