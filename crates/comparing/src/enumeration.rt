@@ -6,10 +6,10 @@ use sets::list::ArrayVec;
 // There are 720 orders of six positions.
 const MOST_ORDERS: usize = 720;
 
-// The positions, first to last.
+// The positions, first to last, a byte each: a list has room for 720 orders, and is copied with the sheet.
 #[derive(Clone, Copy)]
 pub struct Order {
-    positions: ArrayVec<usize, MOST_STEPS>,
+    positions: ArrayVec<u8, MOST_STEPS>,
 }
 
 impl Order {
@@ -25,7 +25,7 @@ impl Order {
         let mut digits = index;
         for left in (1..=n).rev() {
             let next = order.absent(n, digits % left);
-            let _ = order.positions.push(next);
+            let _ = order.positions.push(u8::try_from(next).unwrap_or(u8::MAX));
             digits /= left;
         }
         order
@@ -34,12 +34,12 @@ impl Order {
     // The position that `skipped` others come ahead of, among those that it lacks.
     fn absent(&self, n: usize, skipped: usize) -> usize {
         (0..n)
-            .filter(|x| !self.as_slice().contains(x))
+            .filter(|x| self.as_slice().iter().all(|y| usize::from(*y) != *x))
             .nth(skipped)
             .unwrap_or(n)
     }
 
-    pub fn as_slice(&self) -> &[usize] {
+    pub fn as_slice(&self) -> &[u8] {
         self.positions.as_slice()
     }
 
@@ -48,16 +48,19 @@ impl Order {
         let positions = self.as_slice();
         positions
             .iter()
-            .position(|y| *y == x)
+            .position(|y| usize::from(*y) == x)
             .unwrap_or(positions.len())
     }
 
     // Whether nothing foreign stands between the first and the last position of the block.
     fn keeps_together(&self, block: &Run) -> bool {
-        let from_first = self.as_slice().iter().skip_while(|x| !block.has(**x));
+        let from_first = self
+            .as_slice()
+            .iter()
+            .skip_while(|x| !block.has(usize::from(**x)));
         !from_first
-            .skip_while(|x| block.has(**x))
-            .any(|x| block.has(*x))
+            .skip_while(|x| block.has(usize::from(**x)))
+            .any(|x| block.has(usize::from(*x)))
     }
 
     // Whether i comes before j wherever i is tied before j, and every block stays together.

@@ -27,8 +27,12 @@ impl<'a> Judged<'a> {
 
     // The facts that stand at the turn of the place in this order.
     fn standing(&self, order: &Order, place: usize) -> PlainFacts {
-        let ahead = order.as_slice().iter().take_while(|step| **step != place);
-        self.task.after(ahead.filter_map(|step| self.action(*step)))
+        let ahead = order
+            .as_slice()
+            .iter()
+            .take_while(|step| usize::from(**step) != place);
+        self.task
+            .after(ahead.filter_map(|step| self.action(usize::from(*step))))
     }
 
     // The facts that do not stand at the turn of the place in some order.

@@ -28,7 +28,7 @@ struct Trial<'a> {
 
 impl Trial<'_> {
     // Whether some running order begins with these positions.
-    fn is_front(&self, front: &[usize]) -> bool {
+    fn is_front(&self, front: &[u8]) -> bool {
         let mut orders = self.orders.all.as_slice().iter();
         orders.any(|order| order.as_slice().starts_with(front))
     }
@@ -40,7 +40,7 @@ impl Trial<'_> {
         let mut rig = TwinRig::word(self.easy.plain.start(), LEFT);
         for (k, p) in positions.iter().enumerate() {
             let is_front = self.is_front(&positions[..=k]);
-            agreed(run.take(*p)? == End(Kind::Take, (!is_front).then_some(10)))?;
+            agreed(run.take(usize::from(*p))? == End(Kind::Take, (!is_front).then_some(10)))?;
             run.agree()?;
             if !is_front {
                 return Ok(());
@@ -57,7 +57,7 @@ impl Trial<'_> {
         let mut run = TwinRun::open(&self.own, self.sheet);
         let mut rig = TwinRig::word(self.own.plain.start(), LEFT);
         for p in order.as_slice() {
-            agreed(!run.take(*p)?.is_refused())?;
+            agreed(!run.take(usize::from(*p))?.is_refused())?;
             let done = run.ask(Act::Done, &mut rig)?;
             run.agree()?;
             rig.agree()?;
