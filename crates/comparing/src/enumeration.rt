@@ -1,21 +1,79 @@
-// All running orders of a sheet, by their definition: every order of the positions is tried.
-use crate::lists::{MOST_STEPS, Run};
+// All running orders of a sheet, by their definition: every order of the positions is tried. The tests of the lists stand in
+// `exhaustive`.
+ghost use Rattle.std.specs.Prelude.{◌≡◌, ℕ, ◌^◌, ◌-◌, length, min, nat_lt, true};
+ghost use Rattle.std.specs.List.{All};
+ghost use Rattle.sets.specs.Contents.{contents};
+ghost use Rattle.comparing.specs.Orders.{KeepsTies, factorial, place, positions, ties};
+
+use crate::lists::{MOST_STEPS, Pair, Run};
 use crate::model::Model;
 use sets::list::ArrayVec;
 
 // There are 720 orders of six positions.
 const MOST_ORDERS: usize = 720;
 
-// The positions, first to last, a byte each: a list has room for 720 orders, and is copied with the sheet.
+/// What an order keeps a position as: a number, or a byte, which takes an eighth of the room.
+pub trait Position: Copy {
+    ghost numbers: { Self → ℕ };
+
+    ghost highest: { ℕ };
+
+    /// The position x, or the highest that can be kept, where x is higher.
+    fn saturating_from(x: usize) -> Self
+        ensures { numbers result ≡ min x highest };
+
+    /// The position that is kept.
+    fn number(self) -> usize
+        ensures { result ≡ numbers self };
+}
+
+impl Position for usize {
+    ghost numbers = { λ position. position };
+
+    ghost highest = { 2 ^ 64 - 1 };
+
+    fn saturating_from(x: usize) -> Self {
+        x
+    }
+
+    fn number(self) -> usize {
+        self
+    }
+}
+
+impl Position for u8 {
+    ghost numbers = { λ position. position };
+
+    ghost highest = { 255 };
+
+    fn saturating_from(x: usize) -> Self {
+        u8::try_from(x).unwrap_or(u8::MAX)
+    }
+
+    fn number(self) -> usize {
+        usize::from(self)
+    }
+}
+
+/// The positions, first to last. Bytes serve lists of orders: a list has room for 720, and is copied with its sheet.
 #[derive(Clone, Copy)]
-pub struct Order {
-    positions: ArrayVec<u8, MOST_STEPS>,
+pub struct Order<P: Position = usize> {
+    positions: ArrayVec<P, MOST_STEPS>,
 }
 
 impl Order {
+    /// The positions, first to last.
+    pub fn as_slice(&self) -> &[usize]
+        ensures { result.now ≡ positions self.now }
+    {
+        Order::positions(self)
+    }
+}
+
+impl<P: Position> Order<P> {
     fn empty() -> Self {
         Order {
-            positions: ArrayVec::new(0),
+            positions: ArrayVec::new(P::saturating_from(0)),
         }
     }
 
@@ -25,50 +83,66 @@ impl Order {
         let mut digits = index;
         for left in (1..=n).rev() {
             let next = order.absent(n, digits % left);
-            let _ = order.positions.push(u8::try_from(next).unwrap_or(u8::MAX));
+            let _ = order.positions.push(P::saturating_from(next));
             digits /= left;
         }
         order
     }
 
+    /// The positions, first to last, as they are kept.
+    pub fn positions(&self) -> &[P]
+        ensures { result.now ≡ positions self.now }
+    {
+        self.positions.as_slice()
+    }
+
     // The position that `skipped` others come ahead of, among those that it lacks.
     fn absent(&self, n: usize, skipped: usize) -> usize {
         (0..n)
-            .filter(|x| self.as_slice().iter().all(|y| usize::from(*y) != *x))
+            .filter(|x| self.positions().iter().all(|y| y.number() != *x))
             .nth(skipped)
             .unwrap_or(n)
     }
 
-    pub fn as_slice(&self) -> &[u8] {
-        self.positions.as_slice()
-    }
-
     // The place of x, the number of places where it has none.
-    fn place(&self, x: usize) -> usize {
-        let positions = self.as_slice();
+    fn place(&self, x: usize) -> usize
+        ensures { result ≡ place P.Position.numbers self.now x }
+    {
+        let positions = self.positions();
         positions
             .iter()
-            .position(|y| usize::from(*y) == x)
+            .position(|y| y.number() == x)
             .unwrap_or(positions.len())
     }
 
     // Whether nothing foreign stands between the first and the last position of the block.
     fn keeps_together(&self, block: &Run) -> bool {
         let from_first = self
-            .as_slice()
+            .positions()
             .iter()
-            .skip_while(|x| !block.has(usize::from(**x)));
+            .skip_while(|x| !block.has(x.number()));
         !from_first
-            .skip_while(|x| block.has(usize::from(**x)))
-            .any(|x| block.has(usize::from(*x)))
+            .skip_while(|x| block.has(x.number()))
+            .any(|x| block.has(x.number()))
+    }
+
+    // Whether every tie is kept.
+    fn keeps_ties(&self, pairs: &[Pair]) -> bool
+        ensures { result ≡ true → KeepsTies P.Position.numbers pairs.now self.now }
+    {
+        pairs.iter().all(
+            |tie: &Pair| -> bool
+                ensures { result ≡ nat_lt (place P.Position.numbers self.entry.now tie.now.0)
+                    (place P.Position.numbers self.entry.now tie.now.1) }
+            { self.place(tie.0) < self.place(tie.1) },
+        )
     }
 
     // Whether i comes before j wherever i is tied before j, and every block stays together.
-    fn is_permitted(&self, model: &Model) -> bool {
-        model
-            .ties()
-            .iter()
-            .all(|&(i, j)| self.place(i) < self.place(j))
+    fn is_permitted(&self, model: &Model) -> bool
+        ensures { result ≡ true → KeepsTies P.Position.numbers (ties model.now) self.now }
+    {
+        self.keeps_ties(model.ties.as_slice())
             && model
                 .blocks()
                 .iter()
@@ -76,34 +150,65 @@ impl Order {
     }
 }
 
-fn factorial(n: usize) -> usize {
-    (1..=n).fold(1, |product: usize, k| product.saturating_mul(k))
+// How many orders n positions have.
+fn factorial(n: usize) -> usize
+    ensures { result ≡ min (factorial n) (2 ^ 64 - 1) }
+{
+    (0..n).fold(
+        1,
+        |product: usize, k| product.saturating_mul(k.saturating_add(1)),
+    )
 }
 
-// Every order of n positions.
-pub fn every_order(n: usize) -> ArrayVec<Order, MOST_ORDERS> {
-    let every = (0..factorial(n)).map(|index| Order::at(index, n));
-    ArrayVec::collect(Order::empty(), every)
+/// The orders of n positions, each position kept as a `P`: as many as there are, or the first 720 that are made, with the first
+/// `MOST_STEPS` positions of each. It takes a turn for each of the n! orders, 2^64 - 1 turns from 21 positions on.
+pub fn every_order_as<P: Position>(n: usize) -> ArrayVec<Order<P>, MOST_ORDERS>
+    ensures { length (contents result) ≡ min (factorial n) 720 }
+{
+    let mut every = ArrayVec::new(Order::empty());
+    for index in 0..factorial(n) {
+        let _ = every.push(Order::at(index, n));
+    }
+    every
 }
 
-// A sheet with its running orders.
+/// The orders of n positions, each position a number, as `every_order_as` makes them.
+pub fn every_order(n: usize) -> ArrayVec<Order, MOST_ORDERS>
+    ensures { length (contents result) ≡ min (factorial n) 720 }
+{
+    every_order_as(n)
+}
+
+/// A sheet with its running orders.
 #[derive(Drop)]
-pub struct Orders<'a> {
+pub struct Orders<'a, P: Position = usize> {
     pub(crate) model: &'a Model,
-    pub all: ArrayVec<Order, MOST_ORDERS>,
+    pub all: ArrayVec<Order<P>, MOST_ORDERS>,
+}
+
+impl<'a, P: Position> Orders<'a, P> {
+    /// The running orders of the sheet, each position kept as a `P`. Each keeps the ties.
+    pub fn permitted_by(model: &'a Model) -> Self
+        ensures { All (KeepsTies P.Position.numbers (ties model.now)) (contents result.all) }
+    {
+        let n = model.steps();
+        let mut all = ArrayVec::new(Order::empty());
+        // Not by `every_order_as`: a second list of 720 orders for each sheet would be filled for nothing.
+        for index in 0..factorial(n) {
+            let order = Order::at(index, n);
+            if order.is_permitted(model) {
+                let _ = all.push(order);
+            }
+        }
+        Orders { model, all }
+    }
 }
 
 impl<'a> Orders<'a> {
-    pub fn of(model: &'a Model) -> Self {
-        let n = model.steps();
-        // Not by `every_order`: a second list of 720 orders for each sheet would be filled for nothing.
-        let every = (0..factorial(n)).map(|index| Order::at(index, n));
-        Orders {
-            model,
-            all: ArrayVec::collect(
-                Order::empty(),
-                every.filter(|order| order.is_permitted(model)),
-            ),
-        }
+    /// The running orders of the sheet, each position a number. Each keeps the ties.
+    pub fn of(model: &'a Model) -> Self
+        ensures { All (KeepsTies (λ position. position) (ties model.now)) (contents result.all) }
+    {
+        Self::permitted_by(model)
     }
 }

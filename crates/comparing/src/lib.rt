@@ -25,7 +25,7 @@ pub use checking::{Findings, compare_checks, shaped};
 pub use differing::{Difference, Differs};
 pub use editing::compare_edits;
 pub use ends::{Count, End, Ends, Kind};
-pub use enumeration::{Order, Orders, every_order};
+pub use enumeration::{Order, Orders, Position, every_order, every_order_as};
 pub use facts::PlainFacts;
 pub use lists::{MOST_STEPS, Pair, Run};
 pub use model::Model;

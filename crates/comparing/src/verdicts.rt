@@ -8,14 +8,14 @@ use sheet::SheetFault;
 // A sheet with its running orders, and the task under which it is judged.
 #[derive(Drop)]
 pub(crate) struct Judged<'a> {
-    pub(crate) orders: Orders<'a>,
+    pub(crate) orders: Orders<'a, u8>,
     task: &'a PlainTask,
 }
 
 impl<'a> Judged<'a> {
     pub(crate) fn under(task: &'a PlainTask, model: &'a Model) -> Self {
         Judged {
-            orders: Orders::of(model),
+            orders: Orders::permitted_by(model),
             task,
         }
     }
@@ -26,9 +26,9 @@ impl<'a> Judged<'a> {
     }
 
     // The facts that stand at the turn of the place in this order.
-    fn standing(&self, order: &Order, place: usize) -> PlainFacts {
+    fn standing(&self, order: &Order<u8>, place: usize) -> PlainFacts {
         let ahead = order
-            .as_slice()
+            .positions()
             .iter()
             .take_while(|step| usize::from(**step) != place);
         self.task

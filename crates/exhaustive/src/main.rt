@@ -13,3 +13,6 @@ fn main(rt: HostRuntime) -> anyhow::Result<()> {
     println!(rt; "{findings}")?;
     Ok(())
 }
+
+#[cfg(test)]
+mod tests;

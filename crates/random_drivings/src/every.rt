@@ -5,7 +5,7 @@ use crate::ends::{End, Kind};
 use crate::holding::Act;
 use crate::twins::{TwinRig, TwinRun, TwinSheet, TwinTask, agreed};
 use comparing::{
-    Difference, Differs, Order, Orders, PlainTask, Random, Shape, Shapes, every_order, shaped,
+    Difference, Differs, Order, Orders, PlainTask, Random, Shape, Shapes, every_order_as, shaped,
     tallied,
 };
 use rigs::Rig;
@@ -21,7 +21,7 @@ const LEFT: u16 = 5;
 #[derive(Drop)]
 struct Trial<'a> {
     sheet: &'a TwinSheet,
-    orders: Orders<'a>,
+    orders: Orders<'a, u8>,
     own: TwinTask,
     easy: TwinTask,
 }
@@ -30,12 +30,12 @@ impl Trial<'_> {
     // Whether some running order begins with these positions.
     fn is_front(&self, front: &[u8]) -> bool {
         let mut orders = self.orders.all.as_slice().iter();
-        orders.any(|order| order.as_slice().starts_with(front))
+        orders.any(|order| order.positions().starts_with(front))
     }
 
     // Takes and does the positions in this order, while they begin a running order; the take behind them is refused.
-    fn drive_easily(&self, order: &Order) -> Result<(), Differs> {
-        let positions = order.as_slice();
+    fn drive_easily(&self, order: &Order<u8>) -> Result<(), Differs> {
+        let positions = order.positions();
         let mut run = TwinRun::open(&self.easy, self.sheet);
         let mut rig = TwinRig::word(self.easy.plain.start(), LEFT);
         for (k, p) in positions.iter().enumerate() {
@@ -53,10 +53,10 @@ impl Trial<'_> {
     }
 
     // Whether no step is refused in this running order, and the goal stands at its end.
-    fn ends_well(&self, order: &Order) -> Result<bool, Differs> {
+    fn ends_well(&self, order: &Order<u8>) -> Result<bool, Differs> {
         let mut run = TwinRun::open(&self.own, self.sheet);
         let mut rig = TwinRig::word(self.own.plain.start(), LEFT);
-        for p in order.as_slice() {
+        for p in order.positions() {
             agreed(!run.take(usize::from(*p))?.is_refused())?;
             let done = run.ask(Act::Done, &mut rig)?;
             run.agree()?;
@@ -77,7 +77,7 @@ impl Trial<'_> {
     }
 
     fn drive_all(&self) -> Result<(), Differs> {
-        for order in every_order(self.sheet.model.steps()).as_slice() {
+        for order in every_order_as::<u8>(self.sheet.model.steps()).as_slice() {
             self.drive_easily(order)?;
         }
         Ok(())
@@ -91,7 +91,7 @@ fn driven(random: &mut Random) -> Result<Shape, Differs> {
     let sheet = TwinSheet::from(shaped(random, &plain, steps)?);
     let trial = Trial {
         sheet: &sheet,
-        orders: Orders::of(&sheet.model),
+        orders: Orders::permitted_by(&sheet.model),
         own: plain.into(),
         easy: plain.without_needs().into(),
     };

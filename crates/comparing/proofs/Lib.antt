@@ -1,0 +1,2 @@
+pub mod Factorials
+pub mod Pushed
