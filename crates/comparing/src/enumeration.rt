@@ -1,6 +1,6 @@
 // All running orders of a sheet, by their definition: every order of the positions is tried. The tests of the lists stand in
 // `exhaustive`.
-ghost use Rattle.std.specs.Prelude.{◌≡◌, ℕ, ◌^◌, ◌-◌, length, min, nat_lt, true};
+ghost use Rattle.std.specs.Prelude.{◌≡◌, ℕ, ◌^◌, ◌-◌, List, [], length, min, nat_lt, true};
 ghost use Rattle.std.specs.List.{All};
 ghost use Rattle.sets.specs.Contents.{contents};
 ghost use Rattle.comparing.specs.Orders.{KeepsTies, factorial, place, positions, ties};
@@ -71,17 +71,22 @@ impl Order {
 }
 
 impl<P: Position> Order<P> {
-    fn empty() -> Self {
+    fn empty() -> Self
+        ensures { positions result ≡ [] }
+    {
         Order {
             positions: ArrayVec::new(P::saturating_from(0)),
         }
     }
 
     // The `index`-th order of n positions, by the digits of the index. Each step changes the order and the digits.
-    fn at(index: usize, n: usize) -> Self {
+    fn at(index: usize, n: usize) -> Self
+        ensures { length (positions result) ≡ min n MOST_STEPS }
+    {
         let mut order = Order::empty();
         let mut digits = index;
-        for left in (1..=n).rev() {
+        for k in 0..n {
+            let left = n - k;
             let next = order.absent(n, digits % left);
             let _ = order.positions.push(P::saturating_from(next));
             digits /= left;
@@ -150,7 +155,7 @@ impl<P: Position> Order<P> {
     }
 }
 
-// How many orders n positions have.
+// How many orders n positions have, or the highest number where they have more.
 fn factorial(n: usize) -> usize
     ensures { result ≡ min (factorial n) (2 ^ 64 - 1) }
 {
@@ -163,7 +168,8 @@ fn factorial(n: usize) -> usize
 /// The orders of n positions, each position kept as a `P`: as many as there are, or the first 720 that are made, with the first
 /// `MOST_STEPS` positions of each. It takes a turn for each of the n! orders, 2^64 - 1 turns from 21 positions on.
 pub fn every_order_as<P: Position>(n: usize) -> ArrayVec<Order<P>, MOST_ORDERS>
-    ensures { length (contents result) ≡ min (factorial n) 720 }
+    ensures count { length (contents result) ≡ min (factorial n) MOST_ORDERS }
+    ensures full { All (λ order. length (positions order) ≡ min n MOST_STEPS) (contents result) }
 {
     let mut every = ArrayVec::new(Order::empty());
     for index in 0..factorial(n) {
@@ -174,7 +180,8 @@ pub fn every_order_as<P: Position>(n: usize) -> ArrayVec<Order<P>, MOST_ORDERS>
 
 /// The orders of n positions, each position a number, as `every_order_as` makes them.
 pub fn every_order(n: usize) -> ArrayVec<Order, MOST_ORDERS>
-    ensures { length (contents result) ≡ min (factorial n) 720 }
+    ensures count { length (contents result) ≡ min (factorial n) MOST_ORDERS }
+    ensures full { All (λ order. length (positions order) ≡ min n MOST_STEPS) (contents result) }
 {
     every_order_as(n)
 }
